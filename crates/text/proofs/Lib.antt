@@ -1,0 +1,9 @@
+pub mod Bools
+pub mod Ranges
+pub mod Digits
+pub mod Orders
+pub mod Spans
+pub mod Characters
+pub mod WhiteSpaces
+pub mod Trims
+pub mod Encoding

@@ -1,0 +1,9 @@
+pub mod Answer
+pub mod Range
+pub mod Digits
+pub mod Span
+pub mod Utf8
+pub mod WhiteSpace
+pub mod Trim
+pub mod TrimWalk
+pub mod Order

@@ -1,0 +1,23 @@
+// Places in a text.
+ghost use mathlib.Core.Path.{_≡_};
+ghost use Rattle.text.specs.Span.{partOf};
+
+// The bytes from start up to end.
+pub struct Span {
+    pub start: usize,
+    pub end: usize,
+}
+
+// The len bytes of s from start on, and no bytes where they are not all in s.
+pub fn part(s: &[u8], start: usize, len: usize) -> &[u8]
+    ensures { λ r. ⌜ now r ≡ partOf (now (s .entry)) start len ⌝ }
+{
+    if s.len() < start {
+        return &s[0..0];
+    }
+    if s.len() - start < len {
+        return &s[0..0];
+    }
+    let end = start + len;
+    &s[start..end]
+}
