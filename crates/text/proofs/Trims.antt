@@ -6,15 +6,16 @@ use Prim.Native.Nat.{ℕ, zero, suc, _+_, _-_, _≤_, _<_}
 use native.Mathlib.Omega.{arith}
 use native.Mathlib.Nat.{add-zero, zero-add}
 use native.Mathlib.Decide.{decLt}
-use lib.ListN.{length, getD, drop, length-drop}
+use lib.ListN.{length, getD, take, drop, length-drop}
 use lib.Seq.{getD-drop}
 use Rattle.text.specs.declared.utf8.Char.{Char}
 use Rattle.text.specs.declared.utf8.Char.the-variants.{Bad, Point}
 use Rattle.text.specs.declared.span.Span.{Span}
 use Rattle.text.specs.declared.trimming.Kept.{Kept}
+use Rattle.text.specs.Span.{cut}
 use Rattle.text.specs.Utf8.{front, size, chars, good, allGood, utf8}
 use Rattle.text.specs.WhiteSpace.{trims}
-use Rattle.text.specs.Trim.{allWhite, before, through, keptOf, trimmed}
+use Rattle.text.specs.Trim.{allWhite, before, through, keptOf, trimmed, trimOf}
 use Rattle.text.specs.TrimWalk.{nothing, widened, keep, spanOf, graphic}
 use Rattle.text.proofs.Bools.{both, not-both}
 use Rattle.text.proofs.Ranges.{within-range}
@@ -197,3 +198,8 @@ trimmed-whole s mode h b b′ e f e′ f′ =
         span 0 (length s) ≡ cond u (cond (allWhite mode (chars 0 s)) (span 0 0) (span (before mode (chars 0 s)) (through mode (chars 0 s)))) (span 0 (length s))
     go o true q k = let z = k (sym (good-start s) ∙ q) in let t : through mode (chars 0 s) ≡ length s = omega (arith, z .1) in rw (z .0, o, t)
     go o false q k = refl
+
+-- the bytes at a place that trimming gave
+pub cut-trimmed : (s : List ℕ) (mode : ℕ) (p : Span) → p ≡ trimmed mode s → take (p .end - p .start) (drop (p .start) s) ≡ trimOf mode s
+unfolding trimOf cut
+cut-trimmed s mode p e = rw e

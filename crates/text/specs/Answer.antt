@@ -14,3 +14,7 @@ read a = record { message = 0; value = some a }
 -- a message in place of a value
 abbrev pub says : {A : Type 0} → ℕ → Answer A
 says n = record { message = n; value = none }
+
+-- neither a value nor anything to say
+abbrev pub silent : {A : Type 0} → Answer A
+silent = says 0

@@ -18,4 +18,5 @@ pub use order::same;
 pub use span::Span;
 pub use span::part;
 pub use trimming::trim;
+pub use trimming::trimmed_text;
 pub use utf8::is_utf8;

@@ -2,7 +2,7 @@
 ghost use mathlib.Core.Path.{_≡_};
 ghost use Prim.Native.Nat.{_+_, _≤_, _<_};
 ghost use lib.ListN.{length};
-ghost use Rattle.text.specs.Trim.{trimmed};
+ghost use Rattle.text.specs.Trim.{trimmed, trimOf};
 ghost use Rattle.text.specs.TrimWalk.{widened, graphic};
 use crate::span::Span;
 use crate::utf8::char_at;
@@ -93,4 +93,14 @@ pub fn trim(s: &[u8], mode: u32) -> Span
         }
     }
     trim_each(s, mode)
+}
+
+// What is left of s after trimming in a mode.
+pub fn trimmed_text(s: &[u8], mode: u32) -> &[u8]
+    ensures { λ r. ⌜ now r ≡ trimOf mode (now (s .entry)) ⌝ }
+{
+    let t = trim(s, mode);
+    let start = t.start;
+    let end = t.end;
+    &s[start..end]
 }

@@ -1,0 +1,6 @@
+pub mod Decimal
+pub mod Grammar
+pub mod Amount
+pub mod Percentage
+pub mod Answers
+pub mod Walk

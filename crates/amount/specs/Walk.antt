@@ -1,0 +1,75 @@
+-- The walk over a decimal, byte by byte, as the code makes it. `finish-run` and `rate-run` (proofs/Meaning.antt) join it to the definitions.
+use mathlib.Core.Bool.{Bool, true, false, cond}
+use mathlib.Core.List.{List, foldl}
+use Prim.Native.Nat.{ℕ, _+_, _*_, _-_, _^_, min}
+use lib.Dec.{ltb, leb, eqb}
+use Rattle.text.specs.Digits.{digit}
+use Rattle.amount.specs.declared.decimal.Walk.{Walk}
+use Rattle.amount.specs.declared.decimal.Walk.the-variants.{Start, Whole, Fraction, Bad}
+use Rattle.amount.specs.declared.amount.ParsedAmount.{ParsedAmount}
+use Rattle.amount.specs.declared.amount.ParsedAmount.the-variants.{Amount, Empty, Malformed, TooManyDecimals, OutOfRange}
+use Rattle.amount.specs.declared.numeric.Percentage.{Percentage}
+use Rattle.amount.specs.declared.numeric.ParsedPercentage.{ParsedPercentage}
+use Rattle.amount.specs.declared.numeric.ParsedPercentage.the-variants as Rated
+use Rattle.amount.specs.Decimal.{signed}
+
+-- a size, exact up to 2^63 and 2^63 + 1 above; a count, exact up to 18 and 19 above
+abbrev pub cap : ℕ → ℕ
+cap n = min n (2 ^ 63 + 1)
+
+abbrev pub sat : ℕ → ℕ
+sat n = min n 19
+
+unfoldable pub wholeStep : Bool → ℕ → ℕ → ℕ → Walk
+wholeStep g k m b = cond (digit b) (Whole g (sat (k + 1)) (cap (10 * m + (b - 48)))) (cond (eqb b 0x2E) (Fraction g k 0 m) Bad)
+
+unfoldable pub fractionStep : Bool → ℕ → ℕ → ℕ → ℕ → Walk
+fractionStep g k p m b = cond (digit b) (Fraction g (sat (k + 1)) (sat (p + 1)) (cap (10 * m + (b - 48)))) Bad
+
+unfoldable pub startStep : ℕ → Walk
+startStep b = cond (eqb b 0x2D) (Whole true 0 0) (cond (eqb b 0x2B) (Whole false 0 0) (wholeStep false 0 0 b))
+
+-- a byte more
+abbrev pub stepOf : Walk → ℕ → Walk
+stepOf Start b = startStep b
+stepOf (Whole g k m) b = wholeStep g k m b
+stepOf (Fraction g k p m) b = fractionStep g k p m b
+stepOf Bad b = Bad
+
+-- a walk over bytes, from a state
+unfoldable pub run : Walk → List ℕ → Walk
+run w s = foldl stepOf w s
+
+-- an amount of a size in hundredths, where it is in range
+unfoldable pub ranged : Bool → ℕ → ParsedAmount
+ranged g m = cond g (cond (leb m (2 ^ 63)) (Amount (record { 0 = signed true m })) OutOfRange) (cond (ltb m (2 ^ 63)) (Amount (record { 0 = signed false m })) OutOfRange)
+
+-- a zero more
+abbrev pub push : ℕ → ℕ
+push m = cap (10 * m + (48 - 48))
+
+unfoldable pub padded : Bool → ℕ → ℕ → ParsedAmount
+padded g p m = cond (ltb 2 p) TooManyDecimals (cond (eqb p 2) (ranged g m) (cond (eqb p 1) (ranged g (push m)) (ranged g (push (push m)))))
+
+unfoldable pub endedOf : Bool → ℕ → ℕ → ℕ → ParsedAmount
+endedOf g k p m = cond (eqb k 0) Malformed (padded g p m)
+
+-- the end of a walk, as an amount
+abbrev pub finishOf : Walk → ParsedAmount
+finishOf Start = Empty
+finishOf (Whole g k m) = endedOf g k 0 m
+finishOf (Fraction g k p m) = endedOf g k p m
+finishOf Bad = Malformed
+
+unfoldable pub rated : Bool → ℕ → ℕ → ℕ → ParsedPercentage
+rated g k p m =
+    cond (eqb k 0) Rated.Malformed
+    (cond (ltb 18 k) Rated.TooPrecise
+    (cond (ltb m 1000000000000000000) (Rated.Percentage (record { unscaled = signed g m; scale = p })) Rated.TooPrecise))
+
+-- the end of a walk, as a percentage
+abbrev pub rateOf : Walk → ParsedPercentage
+rateOf Start = Rated.Malformed
+rateOf (Whole g k m) = rated g k 0 m
+rateOf (Fraction g k p m) = rated g k p m
+rateOf Bad = Rated.Malformed

@@ -1,0 +1,109 @@
+// One walk over the bytes of a decimal, with a state of fixed size: it can stop after any byte and
+// be taken up again.
+ghost use mathlib.Core.Path.{_≡_};
+ghost use Prim.Native.Nat.{_+_, _*_, _-_};
+ghost use mathlib.Core.Bool.{true};
+ghost use Rattle.text.specs.Digits.{digit};
+ghost use Rattle.amount.specs.Walk.{cap, sat, wholeStep, fractionStep, startStep, stepOf, run};
+
+// Nothing read; in the whole part: sign, digits, size; in the fraction: sign, digits, decimals,
+// size; no decimal. The sign is true below zero. Counts stop at 19 and sizes at 2^63 + 1.
+pub(crate) enum Walk {
+    Start,
+    Whole(bool, u32, u64),
+    Fraction(bool, u32, u32, u64),
+    Bad,
+}
+
+fn wide(x: u8) -> u64
+    ensures { λ r. ⌜ r ≡ x ⌝ }
+{
+    x as u64
+}
+
+// The size with one digit more, which stops at 2^63 + 1.
+pub(crate) fn push_digit(m: u64, b: u8) -> u64
+    requires { ⌜ digit b ≡ true ⌝ }
+    ensures { λ r. ⌜ r ≡ cap (10 * m + (b - 48)) ⌝ }
+{
+    if m <= 922337203685477580 {
+        m * 10 + wide(b - 48)
+    } else {
+        9223372036854775809
+    }
+}
+
+// The count with one more, which stops at 19.
+fn count_up(n: u32) -> u32
+    ensures { λ r. ⌜ r ≡ sat (n + 1) ⌝ }
+{
+    if n < 18 { n + 1 } else { 19 }
+}
+
+fn whole_step(negative: bool, digits: u32, size: u64, b: u8) -> Walk
+    ensures { λ r. ⌜ r ≡ wholeStep negative digits size b ⌝ }
+{
+    if text::is_digit(b) {
+        return Walk::Whole(negative, count_up(digits), push_digit(size, b));
+    }
+    let point = b == b'.';
+    if point {
+        return Walk::Fraction(negative, digits, 0, size);
+    }
+    Walk::Bad
+}
+
+fn fraction_step(negative: bool, digits: u32, decimals: u32, size: u64, b: u8) -> Walk
+    ensures { λ r. ⌜ r ≡ fractionStep negative digits decimals size b ⌝ }
+{
+    if text::is_digit(b) {
+        return Walk::Fraction(
+            negative,
+            count_up(digits),
+            count_up(decimals),
+            push_digit(size, b),
+        );
+    }
+    Walk::Bad
+}
+
+fn start_step(b: u8) -> Walk
+    ensures { λ r. ⌜ r ≡ startStep b ⌝ }
+{
+    let minus = b == b'-';
+    if minus {
+        return Walk::Whole(true, 0, 0);
+    }
+    let plus = b == b'+';
+    if plus {
+        return Walk::Whole(false, 0, 0);
+    }
+    whole_step(false, 0, 0, b)
+}
+
+// The walk after one byte more.
+fn step(w: Walk, b: u8) -> Walk
+    ensures { λ r. ⌜ r ≡ stepOf w b ⌝ }
+{
+    match w {
+        Walk::Start => start_step(b),
+        Walk::Whole(negative, digits, size) => whole_step(negative, digits, size, b),
+        Walk::Fraction(negative, digits, decimals, size) => {
+            fraction_step(negative, digits, decimals, size, b)
+        }
+        Walk::Bad => Walk::Bad,
+    }
+}
+
+// The walk over s, taken up from a state.
+pub(crate) fn walk_on(s: &[u8], from: Walk) -> Walk
+    ensures { λ r. ⌜ r ≡ run from (now (s .entry)) ⌝ }
+{
+    let mut w = from;
+    let mut i = 0;
+    while i < s.len() {
+        w = step(w, s[i]);
+        i += 1;
+    }
+    w
+}

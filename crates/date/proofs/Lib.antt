@@ -1,0 +1,3 @@
+pub mod Months
+pub mod Parts
+pub mod Walking

@@ -1,0 +1,3 @@
+pub mod Date
+pub mod Walk
+pub mod Answers
