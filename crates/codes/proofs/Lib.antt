@@ -1,0 +1,5 @@
+pub mod Ascending
+pub mod Currencies
+pub mod Bits
+pub mod Vats
+pub mod Containing

@@ -1,0 +1,54 @@
+use mathlib.Core.Path.{_≡_, refl}
+use Prim.Native.Nat.{_≤_, _-_}
+use native.Mathlib.Omega.{arith}
+use borrow.Author.Needs.{needs}
+use lib.ListN.{length, drop}
+use Rattle.codes.specs.Conformant.{contains}
+use Rattle.codes.proofs.Containing.{contains-here, contains-on, contains-end}
+use Rattle.codes.proofs.conformant.contains.Statement.{statement}
+use Rattle.codes.proofs.conformant.contains.Tie as tie
+
+abbrev Inv-loop : tie.InvT-loop
+Inv-loop s needle i₀ i = (i ≤ length s) × (contains needle s ≡ contains needle (drop i s))
+
+abbrev μ-loop : tie.MeasureT-loop
+μ-loop s needle i₀ i = length s - i
+
+loop-holds : tie.Need-loop-holds Inv-loop μ-loop
+loop-holds c = (omega arith, refl)
+
+begins-at-requires : tie.Need-begins-at-requires Inv-loop μ-loop
+begins-at-requires c κs = search needs
+
+returns : tie.Need-returns Inv-loop μ-loop
+returns c = search contains-here
+
+add-i : tie.Need-add-i Inv-loop μ-loop
+add-i c = omega arith
+
+loop-less : tie.Need-loop-less Inv-loop μ-loop
+loop-less c = omega arith
+
+loop-again : tie.Need-loop-again Inv-loop μ-loop
+loop-again c = (omega arith, search contains-on)
+
+begins-at-requires-2 : tie.Need-begins-at-requires-2 Inv-loop μ-loop
+begins-at-requires-2 c κs = search needs
+
+returns-2 : tie.Need-returns-2 Inv-loop μ-loop
+returns-2 c = search contains-end
+
+pub contains-spec : {M : Type 1} → statement M
+contains-spec =
+    tie.close
+    (tie.spec
+    Inv-loop
+    μ-loop
+    loop-holds
+    begins-at-requires
+    returns
+    add-i
+    loop-less
+    loop-again
+    begins-at-requires-2
+    returns-2)

@@ -1,0 +1,66 @@
+use Prim.Native.Nat.{_-_}
+use native.Mathlib.Omega.{arith}
+use Rattle.codes.proofs.Ascending.{Between, between-all, between-none, between-here, between-up, between-down}
+use Rattle.codes.proofs.currency.find.Statement.{statement}
+use Rattle.codes.proofs.currency.find.Tie as tie
+
+abbrev Inv-loop : tie.InvT-loop
+Inv-loop table x lo₀ hi₀ lo hi = Between table x lo hi
+
+abbrev μ-loop : tie.MeasureT-loop
+μ-loop table x lo₀ hi₀ lo hi = hi - lo
+
+loop-holds : tie.Need-loop-holds Inv-loop μ-loop
+loop-holds c = between-all _ _
+
+sub-mid : tie.Need-sub-mid Inv-loop μ-loop
+sub-mid c = omega arith
+
+add-mid : tie.Need-add-mid Inv-loop μ-loop
+add-mid c = omega arith
+
+mul-y : tie.Need-mul-y Inv-loop μ-loop
+mul-y c = omega arith
+
+shared-slice-read-y : tie.Need-shared-slice-read-y Inv-loop μ-loop
+shared-slice-read-y c = omega arith
+
+returns : tie.Need-returns Inv-loop μ-loop
+returns c = search between-here
+
+add-lo : tie.Need-add-lo Inv-loop μ-loop
+add-lo c = omega arith
+
+loop-less : tie.Need-loop-less Inv-loop μ-loop
+loop-less c = omega arith
+
+loop-again : tie.Need-loop-again Inv-loop μ-loop
+loop-again c = search between-up
+
+loop-less-2 : tie.Need-loop-less-2 Inv-loop μ-loop
+loop-less-2 c = omega arith
+
+loop-again-2 : tie.Need-loop-again-2 Inv-loop μ-loop
+loop-again-2 c = search between-down
+
+returns-2 : tie.Need-returns-2 Inv-loop μ-loop
+returns-2 c = search between-none
+
+pub find-spec : {M : Type 1} → statement M
+find-spec =
+    tie.close
+    (tie.spec
+    Inv-loop
+    μ-loop
+    loop-holds
+    sub-mid
+    add-mid
+    mul-y
+    shared-slice-read-y
+    returns
+    add-lo
+    loop-less
+    loop-again
+    loop-less-2
+    loop-again-2
+    returns-2)
