@@ -20,6 +20,12 @@ order [] (y ∷ t) = Ordering·lt
 order (x ∷ s) [] = Ordering·gt
 order (x ∷ s) (y ∷ t) = cond (ltb x y) Ordering·lt (cond (ltb y x) Ordering·gt (order s t))
 
+-- how the second stands to the first
+abbrev pub opposite : Ordering → Ordering
+opposite Ordering·lt = Ordering·gt
+opposite Ordering·eq = Ordering·eq
+opposite Ordering·gt = Ordering·lt
+
 -- what an answer of `compare` says
 abbrev pub ordering : Code.Ordering → Ordering
 ordering Less = Ordering·lt
