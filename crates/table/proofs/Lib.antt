@@ -1,0 +1,5 @@
+pub mod Scans
+pub mod Records
+pub mod Kin
+pub mod Linking
+pub mod Chains

@@ -1,0 +1,5 @@
+pub mod Fields
+pub mod Table
+pub mod Links
+pub mod Refusals
+pub mod Verdicts
