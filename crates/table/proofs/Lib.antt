@@ -3,3 +3,4 @@ pub mod Records
 pub mod Kin
 pub mod Linking
 pub mod Chains
+pub mod Accepting
