@@ -8,6 +8,7 @@ use Rattle.amount.specs.declared.numeric.Percentage.{Percentage}
 use Rattle.amount.specs.declared.numeric.ParsedPercentage.{ParsedPercentage}
 use Rattle.amount.specs.declared.numeric.ParsedPercentage.the-variants as Rated
 
+-- messages 3, 4 and 5; an empty amount has neither value nor message
 abbrev pub amountAnswer : ParsedAmount → Answer ℤ
 amountAnswer (Parsed.Amount a) = read (a .0)
 amountAnswer Parsed.Empty = silent
@@ -15,6 +16,7 @@ amountAnswer Parsed.Malformed = says 3
 amountAnswer Parsed.TooManyDecimals = says 4
 amountAnswer Parsed.OutOfRange = says 5
 
+-- messages 6 and 7; a percentage is its unscaled number and its scale
 abbrev pub percentageAnswer : ParsedPercentage → Answer (ℤ × ℕ)
 percentageAnswer (Rated.Percentage p) = read (p .unscaled, p .scale)
 percentageAnswer Rated.Malformed = says 6

@@ -6,6 +6,7 @@ use lib.Dec.{eqb}
 use lib.IntN.{ℤ, pos, negℤ}
 use Rattle.text.specs.Digits.{digit, allDigits}
 
+-- no bytes
 abbrev pub empty : List ℕ → Bool
 empty [] = true
 empty (b ∷ s) = false
@@ -20,11 +21,12 @@ unfoldable pub unsigned : List ℕ → List ℕ
 unsigned [] = []
 unsigned (b ∷ s) = cond (eqb b 0x2D || eqb b 0x2B) s (b ∷ s)
 
--- the digits at the front, and what follows them
+-- the digits at the front
 unfoldable pub digitsOf : List ℕ → List ℕ
 digitsOf [] = []
 digitsOf (b ∷ s) = cond (digit b) (b ∷ digitsOf s) []
 
+-- what follows them
 unfoldable pub pastDigits : List ℕ → List ℕ
 pastDigits [] = []
 pastDigits (b ∷ s) = cond (digit b) (pastDigits s) (b ∷ s)
@@ -34,14 +36,16 @@ unfoldable pub pointed : List ℕ → Bool
 pointed [] = true
 pointed (b ∷ s) = eqb b 0x2E
 
+-- what follows the period
 unfoldable pub pastPoint : List ℕ → List ℕ
 pastPoint [] = []
 pastPoint (b ∷ s) = s
 
--- the digits before the period and what stands after it
+-- the digits before the period
 unfoldable pub whole : List ℕ → List ℕ
 whole t = digitsOf (unsigned t)
 
+-- what stands after the period
 unfoldable pub fraction : List ℕ → List ℕ
 fraction t = pastPoint (pastDigits (unsigned t))
 

@@ -13,19 +13,23 @@ use Rattle.amount.specs.declared.numeric.ParsedPercentage.{ParsedPercent
 use Rattle.amount.specs.declared.numeric.ParsedPercentage.the-variants as Rated
 use Rattle.amount.specs.Decimal.{signed}
 
--- a size, exact up to 2^63 and 2^63 + 1 above; a count, exact up to 18 and 19 above
+-- a size, exact up to 2^63 and 2^63 + 1 above
 abbrev pub cap : ℕ → ℕ
 cap n = min n (2 ^ 63 + 1)
 
+-- a count, exact up to 18 and 19 above
 abbrev pub sat : ℕ → ℕ
 sat n = min n 19
 
+-- a byte more of a whole part: sign, digits, size
 unfoldable pub wholeStep : Bool → ℕ → ℕ → ℕ → Walk
 wholeStep g k m b = cond (digit b) (Whole g (sat (k + 1)) (cap (10 * m + (b - 48)))) (cond (eqb b 0x2E) (Fraction g k 0 m) Bad)
 
+-- a byte more of a fraction: sign, digits, decimals, size
 unfoldable pub fractionStep : Bool → ℕ → ℕ → ℕ → ℕ → Walk
 fractionStep g k p m b = cond (digit b) (Fraction g (sat (k + 1)) (sat (p + 1)) (cap (10 * m + (b - 48)))) Bad
 
+-- the first byte
 unfoldable pub startStep : ℕ → Walk
 startStep b = cond (eqb b 0x2D) (Whole true 0 0) (cond (eqb b 0x2B) (Whole false 0 0) (wholeStep false 0 0 b))
 
@@ -48,9 +52,11 @@ ranged g m = cond g (cond (leb m (2 ^ 63)) (Amount (record { 0 = signed true m }
 abbrev pub push : ℕ → ℕ
 push m = cap (10 * m + (48 - 48))
 
+-- a size with so many decimals, filled up to hundredths
 unfoldable pub padded : Bool → ℕ → ℕ → ParsedAmount
 padded g p m = cond (ltb 2 p) TooManyDecimals (cond (eqb p 2) (ranged g m) (cond (eqb p 1) (ranged g (push m)) (ranged g (push (push m)))))
 
+-- a walk that met no byte out of place ends with a digit at least
 unfoldable pub endedOf : Bool → ℕ → ℕ → ℕ → ParsedAmount
 endedOf g k p m = cond (eqb k 0) Malformed (padded g p m)
 
@@ -61,6 +67,7 @@ finishOf (Whole g k m) = endedOf g k 0 m
 finishOf (Fraction g k p m) = endedOf g k p m
 finishOf Bad = Malformed
 
+-- the same for a percentage, of at most 18 digits
 unfoldable pub rated : Bool → ℕ → ℕ → ℕ → ParsedPercentage
 rated g k p m =
     cond (eqb k 0) Rated.Malformed

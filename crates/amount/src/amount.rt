@@ -21,6 +21,7 @@ pub enum ParsedAmount {
     OutOfRange,
 }
 
+// An amount of so many hundredths.
 fn amount_of(z: i64) -> ParsedAmount
     ensures { λ r. ⌜ r ≡ ParsedAmount.Amount (record { 0 = z }) ⌝ }
 {
@@ -73,6 +74,7 @@ fn ended(negative: bool, digits: u32, decimals: u32, size: u64) -> ParsedAmount
     pad(negative, decimals, size)
 }
 
+// The end of a walk, as an amount.
 fn finish(w: Walk) -> ParsedAmount
     ensures { λ r. ⌜ r ≡ finishOf w ⌝ }
 {

@@ -15,6 +15,7 @@ pub(crate) enum Walk {
     Bad,
 }
 
+// A byte as a size.
 fn wide(x: u8) -> u64
     ensures { λ r. ⌜ r ≡ x ⌝ }
 {
@@ -40,6 +41,7 @@ fn count_up(n: u32) -> u32
     if n < 18 { n + 1 } else { 19 }
 }
 
+// A byte more of the whole part: a digit, or the point.
 fn whole_step(negative: bool, digits: u32, size: u64, b: u8) -> Walk
     ensures { λ r. ⌜ r ≡ wholeStep negative digits size b ⌝ }
 {
@@ -53,6 +55,7 @@ fn whole_step(negative: bool, digits: u32, size: u64, b: u8) -> Walk
     Walk::Bad
 }
 
+// A byte more of the fraction: a digit.
 fn fraction_step(negative: bool, digits: u32, decimals: u32, size: u64, b: u8) -> Walk
     ensures { λ r. ⌜ r ≡ fractionStep negative digits decimals size b ⌝ }
 {
@@ -67,6 +70,7 @@ fn fraction_step(negative: bool, digits: u32, decimals: u32, size: u64, b: u8) -
     Walk::Bad
 }
 
+// The first byte: a sign, or a byte of the whole part.
 fn start_step(b: u8) -> Walk
     ensures { λ r. ⌜ r ≡ startStep b ⌝ }
 {

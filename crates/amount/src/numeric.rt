@@ -23,6 +23,7 @@ pub enum ParsedPercentage {
     TooPrecise,
 }
 
+// A size of at most 18 digits with its sign.
 fn with_sign(negative: bool, size: u64) -> i64
     requires { ⌜ size < 1000000000000000000 ⌝ }
     ensures { λ r. ⌜ r ≡ signed negative size ⌝ }
@@ -55,6 +56,7 @@ fn ended(negative: bool, digits: u32, decimals: u32, size: u64) -> ParsedPercent
     ParsedPercentage::TooPrecise
 }
 
+// The end of a walk, as a percentage.
 fn finish(w: Walk) -> ParsedPercentage
     ensures { λ r. ⌜ r ≡ rateOf w ⌝ }
 {

@@ -5,6 +5,7 @@ ghost use mathlib.Core.Bool.{true, false};
 ghost use lib.IntN.{negsuc};
 ghost use Rattle.amount.specs.Decimal.{signed};
 
+// A size as a number that is not below zero.
 pub(crate) fn to_i64(m: u64) -> i64
     requires { ⌜ m < 9223372036854775808 ⌝ }
     ensures { λ r. ⌜ r ≡ signed false m ⌝ }
@@ -20,6 +21,7 @@ fn below_zero(k: u64) -> i64
     -1 - (k as i64)
 }
 
+// A size as a number that is not above zero.
 pub(crate) fn negated(m: u64) -> i64
     requires { ⌜ m ≤ 9223372036854775808 ⌝ }
     ensures { λ r. ⌜ r ≡ signed true m ⌝ }

@@ -8,6 +8,7 @@ use Rattle.text.specs.Utf8.{bytes}
 use Rattle.table.specs.Table.{records, nameOf}
 use Rattle.table.specs.Refusals.{notRoot, misplaced, outside, notUtf8}
 
+-- a table and its text that are refused by none of 3 to 9
 pub record Accepted (t x : List ℕ) : Type 0 where
   pub some-records : 0 < records t
   pub whole-records : length t % 6 ≡ 0

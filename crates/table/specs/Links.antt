@@ -24,6 +24,7 @@ joins t k j = eqb (cell t j 0) k && ltb (cell t j 1) j
 unfoldable pub firstAfter : List ℕ → ℕ → ℕ → List ℕ → List ℕ
 firstAfter t k j first = cond (joins t k j) (set first (cell t j 1) j) first
 
+-- and the one that was in front so far becomes its next
 unfoldable pub nextAfter : List ℕ → ℕ → ℕ → List ℕ → List ℕ → List ℕ
 nextAfter t k j first next = cond (joins t k j) (set next j (getD first (cell t j 1) 0)) next
 
@@ -33,6 +34,7 @@ pub record Arrays : Type 0 where
   pub attr : List ℕ
   pub next : List ℕ
 
+-- three arrays as one
 abbrev pub arrays : List ℕ → List ℕ → List ℕ → Arrays
 arrays f a n = record { first = f; attr = a; next = n }
 

@@ -28,6 +28,7 @@ misplaced t j = not (ltb (cell t j 1) j && (eqb (cell t (cell t j 1) 0) 1 && (eq
 unfoldable pub beyond : List ℕ → ℕ → ℕ → Bool
 beyond x start len = ltb (length x) (start + len)
 
+-- the name or the text of record j
 unfoldable pub outside : List ℕ → List ℕ → ℕ → Bool
 outside t x j = beyond x (cell t j 2) (cell t j 3) || beyond x (cell t j 4) (cell t j 5)
 
@@ -61,6 +62,7 @@ recordRefusal t x =
     (refuse 8 (firstFrom (notUtf8 t x) 0 (records t - 0))
     (refuse 9 (atRoot (notSettlement t x)) none)))
 
+-- 4 and 5 come before them
 unfoldable pub sizeRefusal : List ℕ → List ℕ → Option (ℕ × ℕ)
 sizeRefusal t x = refuse 4 (atRoot (oversized t x)) (refuse 5 (atRoot (notRoot t)) (recordRefusal t x))
 

@@ -16,13 +16,15 @@ records t = length t / 6
 abbrev pub cell : List ℕ → ℕ → ℕ → ℕ
 cell t r k = getD t (r * 6 + k) 0
 
--- a record's name, and its text: an element's direct text joined, or an attribute's value
+-- a record's name
 unfoldable pub nameOf : List ℕ → List ℕ → ℕ → List ℕ
 nameOf t x r = partOf x (cell t r 2) (cell t r 3)
 
+-- its text: an element's direct text joined, or an attribute's value; length 0 is no text
 unfoldable pub textOf : List ℕ → List ℕ → ℕ → List ℕ
 textOf t x r = partOf x (cell t r 4) (cell t r 5)
 
+-- a record has this name
 unfoldable pub named : List ℕ → List ℕ → List ℕ → ℕ → Bool
 named t x w r = equal (nameOf t x r) w
 
@@ -52,10 +54,11 @@ firstOf p (c ∷ l) = cond (p c) (some c) (firstOf p l)
 unfoldable pub firstNamed : List ℕ → List ℕ → ℕ → ℕ → List ℕ → Option ℕ
 firstNamed t x k i w = firstOf (named t x w) (below t k i (records t))
 
--- the first child, and the attribute, of a name
+-- the first child of a name
 unfoldable pub firstChild : List ℕ → List ℕ → ℕ → List ℕ → Option ℕ
 firstChild t x i w = firstNamed t x 1 i w
 
+-- the attribute of a name
 unfoldable pub attribute : List ℕ → List ℕ → ℕ → List ℕ → Option ℕ
 attribute t x i w = firstNamed t x 2 i w
 

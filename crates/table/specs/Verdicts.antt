@@ -6,6 +6,7 @@ use Rattle.table.specs.declared.refusal.Verdict.the-variants.{Accepted, 
 use Rattle.table.specs.declared.refusal.Offender.{Offender}
 use Rattle.table.specs.declared.refusal.Offender.the-variants.{At, Nowhere}
 
+-- the record found, if there is one
 abbrev pub foundAt : Offender → Option ℕ
 foundAt (At j) = some j
 foundAt Nowhere = none

@@ -10,6 +10,7 @@ use crate::record::field_at;
 use crate::record::field_of;
 use crate::record::is_named;
 
+// A link as a record's number.
 fn wide(x: u16) -> usize
     ensures { λ r. ⌜ r ≡ x ⌝ }
 {

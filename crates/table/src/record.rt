@@ -22,6 +22,7 @@ pub fn count(table: &[u32]) -> usize
     table.len() / 6
 }
 
+// Where a field stands in its record.
 fn place_of(f: Field) -> usize
     ensures { λ r. ⌜ (r ≡ place f) × (r < 6) ⌝ }
 {
@@ -52,6 +53,7 @@ pub fn field_of(table: &[u32], r: usize, f: Field) -> u32
     0
 }
 
+// A number of the table as a place.
 fn wide(x: u32) -> usize
     ensures { λ r. ⌜ r ≡ x ⌝ }
 {
@@ -104,6 +106,7 @@ fn is_kin(table: &[u32], kind: u32, i: usize, j: usize) -> bool
     false
 }
 
+// Whether it has this name, too.
 fn is_kin_named(table: &[u32], text: &[u8], kind: u32, i: usize, want: &[u8], j: usize) -> bool
     ensures { λ b. ⌜ b ≡ kinNamed (now (table .entry)) (now (text .entry)) kind i (now (want .entry)) j ⌝ }
 {

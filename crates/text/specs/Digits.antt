@@ -8,6 +8,7 @@ use Rattle.text.specs.Range.{within}
 unfoldable pub digit : ℕ → Bool
 digit b = within b 0x30 0x39
 
+-- nothing but digits
 unfoldable pub allDigits : List ℕ → Bool
 allDigits [] = true
 allDigits (b ∷ s) = digit b && allDigits s

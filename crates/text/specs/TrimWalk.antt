@@ -1,4 +1,4 @@
--- Trims as one pass over the characters, as the code makes it: `keep-is` (proofs/Trimming.antt) joins it to `keptOf`.
+-- Trimming as one pass over the characters, as the code makes it: `keep-is` (proofs/Trims.antt) joins it to `keptOf`.
 use mathlib.Core.Bool.{Bool, true, false, cond}
 use mathlib.Core.List.{List, [], _∷_}
 use Prim.Native.Nat.{ℕ, _+_}
@@ -22,6 +22,7 @@ unfoldable pub keep : ℕ → Kept → ℕ → List Char → Kept
 keep mode k i [] = k
 keep mode k i (x ∷ xs) = keep mode (widened k (trims mode x) i (i + size x)) (i + size x) xs
 
+-- the place of it
 abbrev pub spanOf : Kept → Span
 spanOf k = record { start = k .start; end = k .end }
 

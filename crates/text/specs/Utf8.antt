@@ -46,13 +46,15 @@ tail b = within b 0x80 0xBF
 unfoldable pub scalar : ℕ → ℕ → ℕ → Char
 scalar least c n = cond (leb least c && isScalar c) (Point c n) Bad
 
--- the character of a first octet and those after it: the x bits of the table, put together
+-- the character of a first octet and those after it, the x bits of the table put together: 110xxxxx 10xxxxxx
 unfoldable pub two : ℕ → ℕ → Char
 two a b = cond (tail b) (scalar 0x80 (a % 32 * 64 + b % 64) 2) Bad
 
+-- 1110xxxx 10xxxxxx 10xxxxxx
 unfoldable pub three : ℕ → ℕ → ℕ → Char
 three a b c = cond (tail b && tail c) (scalar 0x800 ((a % 16 * 64 + b % 64) * 64 + c % 64) 3) Bad
 
+-- 11110xxx 10xxxxxx 10xxxxxx 10xxxxxx
 unfoldable pub four : ℕ → ℕ → ℕ → ℕ → Char
 four a b c d = cond (tail b && tail c && tail d) (scalar 0x10000 (((a % 8 * 64 + b % 64) * 64 + c % 64) * 64 + d % 64) 4) Bad
 
@@ -84,6 +86,7 @@ abbrev pub good : Char → Bool
 good Bad = false
 good (Point c n) = true
 
+-- they are all characters
 unfoldable pub allGood : List Char → Bool
 allGood [] = true
 allGood (x ∷ xs) = good x && allGood xs

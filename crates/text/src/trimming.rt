@@ -1,4 +1,4 @@
-// Trimming, as Rust's `str::trim` (mode 0) or as XML Schema treats numbers and dates (mode 1).
+// Trimming, as Rust's `str::trim` (mode 0) or of space and tab alone (mode 1).
 ghost use mathlib.Core.Path.{_≡_};
 ghost use Prim.Native.Nat.{_+_, _≤_, _<_};
 ghost use lib.ListN.{length};

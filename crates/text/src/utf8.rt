@@ -12,6 +12,7 @@ pub(crate) enum Char {
     Point(u32, usize),
 }
 
+// A byte as a number that holds a code point.
 fn wide(x: u8) -> u32
     ensures { λ r. ⌜ r ≡ x ⌝ }
 {
@@ -63,6 +64,7 @@ fn join(x: u32, b: u32) -> u32
     x * 64 + b % 64
 }
 
+// 110xxxxx 10xxxxxx
 fn two_of(a: u32, b: u32) -> Char
     ensures { λ r. ⌜ r ≡ two a b ⌝ }
 {
@@ -72,6 +74,7 @@ fn two_of(a: u32, b: u32) -> Char
     Char::Bad
 }
 
+// 1110xxxx 10xxxxxx 10xxxxxx
 fn three_of(a: u32, b: u32, c: u32) -> Char
     ensures { λ r. ⌜ r ≡ three a b c ⌝ }
 {
@@ -83,6 +86,7 @@ fn three_of(a: u32, b: u32, c: u32) -> Char
     Char::Bad
 }
 
+// 11110xxx 10xxxxxx 10xxxxxx 10xxxxxx
 fn four_of(a: u32, b: u32, c: u32, d: u32) -> Char
     ensures { λ r. ⌜ r ≡ four a b c d ⌝ }
 {
