@@ -127,7 +127,7 @@ def cases():
     yield "zeros", 0, 0
     for n in (1, 5, 7, 11, 13):
         yield "table", (root + child + [1])[:n], text
-    for n, m in ((24582, 0), (24576, 0), (6, 1048577), (6, 1048576), (24577, 0), (24576, 1048576)):
+    for n, m in ((24582, 0), (24576, 0), (24577, 0), (24582, 65536), (6, 65536)):
         yield "zeros", n, m
     yield "table", root, text
     yield "table", root + child, text

@@ -5,7 +5,7 @@ use mathlib.Core.List.{List, [], _∷_}
 use Prim.Native.Nat.{ℕ, _+_, _*_, _-_, _^_, _≤_, _<_}
 use native.Mathlib.Omega.{arith}
 use native.Mathlib.Numerals.{add-one}
-use native.Mathlib.Nat.{pow-succ', pow-le-pow-right}
+use native.Mathlib.Nat.{pow-le-pow-right}
 use borrow.Author.Tests.{eq-eqb, ne-eqb}
 use lib.ListN.{length, getD, drop, drop-of-length-le}
 use lib.Seq.{drop-cons}
@@ -13,7 +13,6 @@ use Rattle.text.specs.Answer.{Answer, read, says}
 use Rattle.text.specs.Digits.{digit, allDigits, number}
 use Rattle.text.specs.Trim.{trimOf}
 use Rattle.text.proofs.Bools.{nested}
-use Rattle.text.proofs.Digits.{digit-range}
 use Rattle.date.specs.Date.{isDay, year, month, day, eightDigits, dateOf, parsedDate}
 use Rattle.date.specs.Walk.{numbered, gathered}
 use Rattle.date.proofs.Parts.{year-is, month-is, day-is}
@@ -43,10 +42,7 @@ pub date-length : (t : List ℕ) → (length t ≡ 8 → ⊥) → says 12 ≡ da
 unfolding dateOf eightDigits
 date-length t n = rw (ne-eqb (length t) 8 n)
 
--- a number of i digits with one more, and the room for it
-pub number-grows : (n m b i : ℕ) (d : Bool) → n < 10 ^ i → d ≡ digit b → d ≡ true → m ≡ 10 * n + (b - 48) → m < 10 ^ (i + 1)
-number-grows n m b i d h e p q = let g = digit-range b (sym e ∙ p) in rw (add-one, pow-succ' 10 i) (omega arith)
-
+-- room for one digit more
 pub number-room : (t : List ℕ) (n i : ℕ) → length t ≡ 8 → i < length t → n < 10 ^ i → n < 10000000
 number-room t n i l h r = let p : 10 ^ i ≤ 10 ^ 7 = pow-le-pow-right {n = 10} (omega arith) {i = i} {j = 7} (omega arith) in omega arith
 

@@ -1,9 +1,10 @@
 -- Laws of digits and of the number that they write.
-use mathlib.Core.Path.{_≡_, refl}
-use mathlib.Core.Bool.{true}
+use mathlib.Core.Path.{_≡_, refl, sym, _∙_}
+use mathlib.Core.Bool.{Bool, true}
 use mathlib.Core.List.{List, [], _∷_, _++_}
 use Prim.Native.Nat.{ℕ, _+_, _*_, _-_, _^_, _≤_, _<_}
 use native.Mathlib.Omega.{arith}
+use native.Mathlib.Numerals.{add-one}
 use native.Mathlib.Nat.{pow-succ', mul-le-mul-right}
 use lib.ListN.{length}
 use Rattle.text.specs.Digits.{digit, allDigits, number}
@@ -34,3 +35,7 @@ number-below (b ∷ s) n e =
     let r = number-below s (10 * n + (b - 48)) (d .1) in
     let m : (10 * n + (b - 48) + 1) * 10 ^ length s ≤ (10 * n + 10) * 10 ^ length s = mul-le-mul-right (10 ^ length s) (omega arith) in
     rw (pow-succ' 10 (length s)) (omega arith)
+
+-- a number of i digits with one more
+pub number-grows : (n m b i : ℕ) (d : Bool) → n < 10 ^ i → d ≡ digit b → d ≡ true → m ≡ 10 * n + (b - 48) → m < 10 ^ (i + 1)
+number-grows n m b i d h e p q = let g = digit-range b (sym e ∙ p) in rw (add-one, pow-succ' 10 i) (omega arith)

@@ -1,3 +1,4 @@
+use Rattle.text.proofs.Digits.{number-grows}
 use mathlib.Core.Path.{_≡_, sym, _∙_}
 use Prim.Native.Nat.{_≤_, _<_, _-_, _^_}
 use native.Mathlib.Omega.{arith}
@@ -5,7 +6,7 @@ use borrow.Author.Needs.{needs}
 use lib.ListN.{length, drop}
 use Rattle.date.specs.Date.{dateOf}
 use Rattle.date.specs.Walk.{gathered}
-use Rattle.date.proofs.Walking.{gathered-is, date-length, number-grows, number-room, walk-on, walk-stop, walk-end}
+use Rattle.date.proofs.Walking.{gathered-is, date-length, number-room, walk-on, walk-stop, walk-end}
 use Rattle.date.proofs.date_of.Statement.{statement}
 use Rattle.date.proofs.date_of.Tie as tie
 

@@ -1,0 +1,3 @@
+pub mod Parameters
+pub mod Symbols
+pub mod Lines

@@ -1,0 +1,3 @@
+pub mod Parameter
+pub mod Symbols
+pub mod Numbers

@@ -1,0 +1,53 @@
+use Prim.Native.Nat.{_≤_, _-_}
+use borrow.Author.Needs.{needs}
+use Rattle.tables.proofs.answer.print_links.Statement.{statement}
+use Rattle.tables.proofs.answer.print_links.Tie as tie
+
+abbrev Inv-loop : tie.InvT-loop
+Inv-loop n first attr next i₀ t6 t7 i = 0 ≤ i
+
+abbrev μ-loop : tie.MeasureT-loop
+μ-loop n first attr next i₀ t6 t7 i = n - i
+
+loop-holds : tie.Need-loop-holds Inv-loop μ-loop
+loop-holds c = search needs
+
+slice-aggregate-print-linked : tie.Need-slice-aggregate-print-linked Inv-loop μ-loop
+slice-aggregate-print-linked c = search needs
+
+print-linked-requires : tie.Need-print-linked-requires Inv-loop μ-loop
+print-linked-requires c κs = search needs
+
+slice-aggregate-print-linked-2 : tie.Need-slice-aggregate-print-linked-2 Inv-loop μ-loop
+slice-aggregate-print-linked-2 c = search needs
+
+print-linked-requires-2 : tie.Need-print-linked-requires-2 Inv-loop μ-loop
+print-linked-requires-2 c κs = search needs
+
+add-i : tie.Need-add-i Inv-loop μ-loop
+add-i c = search needs
+
+loop-less : tie.Need-loop-less Inv-loop μ-loop
+loop-less c = search needs
+
+loop-again : tie.Need-loop-again Inv-loop μ-loop
+loop-again c = search needs
+
+returns : tie.Need-returns Inv-loop μ-loop
+returns c = search needs
+
+pub print-links-spec : {M : Type 1} → statement M
+print-links-spec =
+    tie.close
+    (tie.spec
+    Inv-loop
+    μ-loop
+    loop-holds
+    slice-aggregate-print-linked
+    print-linked-requires
+    slice-aggregate-print-linked-2
+    print-linked-requires-2
+    add-i
+    loop-less
+    loop-again
+    returns)
