@@ -1,0 +1,32 @@
+// Elements that the reader does not map.
+ghost use mathlib.Core.Path.{_≡_};
+ghost use Rattle.report.specs.Put.{put};
+ghost use Rattle.report.specs.Encoding.{unmappedRow};
+ghost use Rattle.report.specs.Values.{unmappedOf};
+use crate::list::UNMAPPED_WIDTH;
+use crate::list::put_row;
+use crate::parent::Parent;
+use crate::value::Place;
+use crate::value::place_length;
+use crate::value::place_start;
+use crate::value::signed;
+
+// The element's parent and its name.
+pub struct Unmapped {
+    pub parent: Parent,
+    pub name: Place,
+}
+
+// Puts an unmapped element's row into a list at a place.
+pub fn put_unmapped(list: &mut [i64], at: usize, u: Unmapped)
+    ensures { λ r. ⌜ now (list .exit) ≡ put (now (list .entry)) at (unmappedRow (unmappedOf u)) ⌝ }
+{
+    let parent = u.parent;
+    let name = u.name;
+    let row: [i64; UNMAPPED_WIDTH] = [
+        signed(parent.number()),
+        place_start(name),
+        place_length(name),
+    ];
+    put_row(list, at, &row);
+}

@@ -1,0 +1,139 @@
+// What a row's fields hold, and the signed numbers that stand for it. Only here does an amount or a
+// percentage become a number.
+ghost use mathlib.Core.Path.{_≡_};
+ghost use lib.IntN.{pos};
+ghost use Rattle.report.specs.Encoding.{placeStart, placeLength, textStart, textLength, unscaled, scale, present, hundredths, orAbsent};
+ghost use Rattle.report.specs.Values.{placeOf, textOf, amountOf, percentOf, dayOf, indexOf};
+use amount::InvoiceAmount;
+use amount::Percentage;
+
+// A text's place in the lent text.
+pub struct Place {
+    pub start: u32,
+    pub len: u32,
+}
+
+// A text that may be absent.
+pub enum Text {
+    Absent,
+    At(Place),
+}
+
+// An amount that may be absent.
+pub enum Amount {
+    Absent,
+    Of(InvoiceAmount),
+}
+
+// A percentage that may be absent.
+pub enum Percent {
+    Absent,
+    Of(Percentage),
+}
+
+// A date, CCYYMMDD, that may be absent.
+pub enum Day {
+    Absent,
+    On(u32),
+}
+
+// The place of a group among those of its kind, where the entry is about one.
+pub enum Index {
+    Absent,
+    At(u32),
+}
+
+pub(crate) fn signed(n: u32) -> i64
+    ensures { λ r. ⌜ r ≡ pos n ⌝ }
+{
+    n as i64
+}
+
+// An empty text starts at 0, wherever it was cut.
+pub(crate) fn place_start(p: Place) -> i64
+    ensures { λ r. ⌜ r ≡ placeStart (placeOf p) ⌝ }
+{
+    let empty = p.len == 0;
+    if empty {
+        return 0;
+    }
+    signed(p.start)
+}
+
+pub(crate) fn place_length(p: Place) -> i64
+    ensures { λ r. ⌜ r ≡ placeLength (placeOf p) ⌝ }
+{
+    signed(p.len)
+}
+
+pub(crate) fn text_start(t: Text) -> i64
+    ensures { λ r. ⌜ r ≡ textStart (textOf t) ⌝ }
+{
+    match t {
+        Text::Absent => -1,
+        Text::At(p) => place_start(p),
+    }
+}
+
+pub(crate) fn text_length(t: Text) -> i64
+    ensures { λ r. ⌜ r ≡ textLength (textOf t) ⌝ }
+{
+    match t {
+        Text::Absent => 0,
+        Text::At(p) => place_length(p),
+    }
+}
+
+pub(crate) fn amount_present(a: Amount) -> i64
+    ensures { λ r. ⌜ r ≡ present (amountOf a) ⌝ }
+{
+    match a {
+        Amount::Absent => 0,
+        Amount::Of(_) => 1,
+    }
+}
+
+pub(crate) fn amount_hundredths(a: Amount) -> i64
+    ensures { λ r. ⌜ r ≡ hundredths (amountOf a) ⌝ }
+{
+    match a {
+        Amount::Absent => 0,
+        Amount::Of(x) => x.to_minor_units(),
+    }
+}
+
+pub(crate) fn percent_unscaled(q: Percent) -> i64
+    ensures { λ r. ⌜ r ≡ unscaled (percentOf q) ⌝ }
+{
+    match q {
+        Percent::Absent => 0,
+        Percent::Of(x) => x.to_unscaled(),
+    }
+}
+
+pub(crate) fn percent_scale(q: Percent) -> i64
+    ensures { λ r. ⌜ r ≡ scale (percentOf q) ⌝ }
+{
+    match q {
+        Percent::Absent => -1,
+        Percent::Of(x) => signed(x.to_scale()),
+    }
+}
+
+pub(crate) fn day_number(d: Day) -> i64
+    ensures { λ r. ⌜ r ≡ orAbsent (dayOf d) ⌝ }
+{
+    match d {
+        Day::Absent => -1,
+        Day::On(n) => signed(n),
+    }
+}
+
+pub(crate) fn index_number(i: Index) -> i64
+    ensures { λ r. ⌜ r ≡ orAbsent (indexOf i) ⌝ }
+{
+    match i {
+        Index::Absent => -1,
+        Index::At(n) => signed(n),
+    }
+}
