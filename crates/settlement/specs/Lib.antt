@@ -1,0 +1,10 @@
+pub mod Document
+pub mod Kinds
+pub mod Shapes
+pub mod Values
+pub mod Tax
+pub mod Payments
+pub mod Summation
+pub mod Settlement
+pub mod TableDoc
+pub mod Outcome

@@ -1,0 +1,53 @@
+-- What a call answers: one of the ten refusals, or a reading (document 01, "Where each refusal is checked").
+use mathlib.Core.Bool.{Bool, _||_}
+use mathlib.Core.List.{List}
+use mathlib.Core.Option.{Option, none, some}
+use Prim.Native.Nat.{ℕ, _*_}
+use lib.Dec.{ltb}
+use Rattle.table.specs.Table.{records}
+use Rattle.table.specs.Refusals.{refuse, atRoot, refusal}
+use Rattle.report.specs.Encoding.{heldWidth, entryWidth, unmappedWidth}
+use Rattle.report.specs.Rows.{Place}
+use Rattle.settlement.specs.Shapes.{Reading}
+use Rattle.settlement.specs.Values.{Lent}
+use Rattle.settlement.specs.Settlement.{reading}
+use Rattle.settlement.specs.TableDoc.{tableDoc}
+
+-- the room of the three lent lists, in numbers
+pub record Room : Type 0 where
+  pub held : ℕ
+  pub entries : ℕ
+  pub unmapped : ℕ
+
+-- a refusal with its number and record, or a reading
+pub data Outcome : Type 0 where
+  refused : (number place : ℕ) → Outcome
+  read : Reading Place → Outcome
+
+-- 1: mode above 1
+unfoldable pub unknownMode : Lent → Bool
+unknownMode L = ltb 1 (L .mode)
+
+-- 2: rules number above 4,095
+unfoldable pub unknownRules : Lent → Bool
+unknownRules L = ltb 4095 (L .rules)
+
+-- 10: room below 14 times the records (held), 24 times (entries: four of them) or 3 times (unmapped)
+unfoldable pub cramped : Room → List ℕ → Bool
+cramped m t = ltb (m .held) (heldWidth * records t) || (ltb (m .entries) (4 * entryWidth * records t) || ltb (m .unmapped) (unmappedWidth * records t))
+
+-- the first refusal of all ten, with its record
+unfoldable pub callRefusal : Lent → Room → List ℕ → List ℕ → Option (ℕ × ℕ)
+callRefusal L m t x = refuse 1 (atRoot (unknownMode L)) (refuse 2 (atRoot (unknownRules L)) (tableRefusal (refusal t x)))
+  where
+    tableRefusal : Option (ℕ × ℕ) → Option (ℕ × ℕ)
+    tableRefusal none = refuse 10 (atRoot (cramped m t)) none
+    tableRefusal (some r) = some r
+
+-- what a call answers
+unfoldable pub outcome : Lent → Room → List ℕ → List ℕ → Outcome
+outcome L m t x = answer (callRefusal L m t x)
+  where
+    answer : Option (ℕ × ℕ) → Outcome
+    answer none = read (reading L (tableDoc t x) 0)
+    answer (some r) = refused (r .0) (r .1)

@@ -1,0 +1,216 @@
+-- The reading of a settlement: its children in order, each on the lane of its kind, and what happens at the end (document 01, `read.rs`).
+use mathlib.Core.Bool.{Bool, false, cond, not, _||_}
+use mathlib.Core.List.{List, [], _∷_, _++_, foldl}
+use mathlib.Core.Option.{Option, none, some}
+use Prim.Native.Nat.{ℕ, suc, Ordering, Ordering·lt, Ordering·eq, Ordering·gt}
+use lib.Dec.{ltb}
+use Rattle.text.specs.Order.{order}
+use Rattle.text.specs.Utf8.{bytes}
+use Rattle.codes.specs.declared.rules.Rule.the-variants as Rule
+use Rattle.report.specs.Parent.{parentNumber}
+use Rattle.report.specs.Rows.{Entry, Held, preceding, Unmapped}
+use Rattle.report.specs.declared.message.Message.the-variants as Message
+use Rattle.report.specs.declared.parent.Parent.the-variants as Parent
+use Rattle.report.specs.declared.path.Path.the-variants as Path
+use Rattle.report.specs.declared.term.Term.the-variants as Term
+use Rattle.settlement.specs.Document.{Doc, maybe, orElse, or}
+use Rattle.settlement.specs.Kinds.{Kind, creditorReference, paymentReference, taxCurrency, invoiceCurrency, payee, paymentMeans, tradeTax, period, allowanceCharge, logisticsCharge, paymentTerms, summation, precedingInvoice, accounting, other, sameKind, home, kindNamed}
+use Rattle.settlement.specs.Shapes.{Identifier, Payee, Means, unset, card, debit, transfers, PaymentTerms, Period, noTotals, Of, State, blank, Act, Currencies, Terms, Reading}
+use Rattle.settlement.specs.Values.{Lent, site, grouped, entry, ownText, textIn, kid, kidText, missing, requiredCode, date}
+use Rattle.settlement.specs.Tax.{tradeTaxOf, allowanceOrCharge, logistics}
+use Rattle.settlement.specs.Payments.{paymentMeansOf}
+use Rattle.settlement.specs.Summation.{totals, isNone}
+
+-- all that is said on the way of a fold
+module _ {C S O : Type 0} (step : S → C → S) (emit : S → C → List O) where
+  -- in order, each with the state before it
+  unfoldable pub said : S → List C → List O
+  said s [] = []
+  said s (c ∷ cs) = emit s c ++ said (step s c) cs
+
+-- insertion into a list in order, which keeps the first of two alike
+unfoldable pub insertBy : {A : Type 0} → (A → A → Ordering) → A → List A → List A
+insertBy f a [] = a ∷ []
+insertBy f a (b ∷ l) = elimOrder (f a b) (a ∷ b ∷ l) (b ∷ l) (b ∷ insertBy f a l)
+  where
+    elimOrder : Ordering → {A : Type 0} → A → A → A → A
+    elimOrder Ordering·lt x y z = x
+    elimOrder Ordering·eq x y z = y
+    elimOrder Ordering·gt x y z = z
+
+module _ {N X : Type 0} (L : Lent) (D : Doc N X) where
+  -- scheme: schemeID if there, else listID, untrimmed
+  unfoldable pub identifierOf : N → Identifier X
+  identifierOf n = record { content = ownText L D 0 n; scheme = orElse (D .attr n (bytes "schemeID")) (D .attr n (bytes "listID")) }
+
+  -- payee identifier: GlobalID if there, else ID
+  unfoldable pub payeeOf : N → Payee X
+  payeeOf n =
+      record {
+        name = kidText L D 0 n "Name";
+        identifier = maybe none (λ e. some (identifierOf e)) (orElse (kid L D n "GlobalID") (kid L D n "ID"));
+        legal = maybe none (λ o. maybe none (λ e. some (identifierOf e)) (kid L D o "ID")) (kid L D n "SpecifiedLegalOrganization");
+      }
+
+  -- a lane's next state, and nothing else
+  unfoldable pub quiet : {S : Type 0} → S → Act X S
+  quiet s = record { next = s; says = []; holds = []; strays = [] }
+
+  -- BG-14: both dates, of the last element
+  unfoldable pub periodOf : N → Act X (Option Period)
+  periodOf n =
+      let a = date L D false Path.PeriodStartDateTimeString Path.PeriodStartDateString n "StartDateTime" in
+      let b = date L D false Path.PeriodEndDateTimeString Path.PeriodEndDateString n "EndDateTime" in
+      record { next = some (record { start = a .0; end = b .0 }); says = a .1 ++ b .1; holds = []; strays = [] }
+
+  -- BT-20 untrimmed, due date, mandate; each later element overwrites all three
+  unfoldable pub paymentTermsOf : N → Act X (PaymentTerms X)
+  paymentTermsOf n =
+      let d = date L D false Path.PaymentTermsDueDateTimeString Path.PaymentTermsDueDateString n "DueDateDateTime" in
+      record {
+        next = record { note = maybe none (D .text) (kid L D n "Description"); due = d .0; mandate = kidText L D 0 n "DirectDebitMandateID" };
+        says = d .1;
+        holds = [];
+        strays = [];
+      }
+
+  -- BG-3: reference, date
+  unfoldable pub precedingOf : ℕ → N → Act X ℕ
+  precedingOf g n =
+      let r = requiredCode L D Rule.Br55 (grouped Path.SettlementInvoiceReferencedDocument Term.Bt25 g) n "IssuerAssignedID" in
+      let d = date L D false Path.ReferencedDocumentIssueDateTimeString Path.ReferencedDocumentIssueDateString n "FormattedIssueDateTime" in
+      record { next = suc g; says = r .1 ++ d .1; holds = preceding (record { reference = r .0; date = d .0 }) ∷ []; strays = [] }
+
+  -- what a child does to the lane l, its home
+  unfoldable pub own : (l : Kind) → Bool → Of X l → Currencies X → N → Act X (Of X l)
+  own creditorReference b s cur n = quiet (textIn L D 0 n)
+  own paymentReference b s cur n = quiet (some (textIn L D 0 n))
+  own taxCurrency b s cur n = quiet (some (ownText L D 0 n))
+  own invoiceCurrency b s cur n = quiet (some (ownText L D 0 n))
+  own payee b s cur n = quiet (some (payeeOf n))
+  own paymentMeans b s cur n = paymentMeansOf L D s n
+  own tradeTax b s cur n = tradeTaxOf L D s n
+  own period b s cur n = periodOf n
+  own allowanceCharge b s cur n = cond b (logistics L D s n) (allowanceOrCharge L D s n)
+  own logisticsCharge b s cur n = quiet tt
+  own paymentTerms b s cur n = paymentTermsOf n
+  own summation b s cur n = totals L D cur n
+  own precedingInvoice b s cur n = precedingOf s n
+  own accounting b s cur n = quiet (kidText L D 0 n "ID")
+  own other b s cur n = record { next = tt; says = []; holds = []; strays = record { parent = Parent.Settlement; name = D .name n } ∷ [] }
+
+  -- the kind of a child
+  unfoldable pub kindOf : N → Kind
+  kindOf n = kindNamed (D .bytes (D .name n))
+
+  -- BT-5 and BT-6 as read so far, which only the summation sees
+  unfoldable pub seen : Kind → State X → Currencies X
+  seen k s = cond (sameKind k summation) (record { bt5 = s invoiceCurrency; bt6 = s taxCurrency }) (record { bt5 = none; bt6 = none })
+
+  -- what a child does on a lane
+  unfoldable pub act : (l : Kind) → State X → N → Act X (Of X l)
+  act l s n = own l (sameKind (kindOf n) logisticsCharge) (s l) (seen (kindOf n) s) n
+
+  -- the state after one child more
+  unfoldable pub step : State X → N → State X
+  step s n = λ l. cond (sameKind l (home (kindOf n))) (act l s n .next) (s l)
+
+  -- the entries of a child
+  unfoldable pub saysOf : State X → N → List (Entry X)
+  saysOf s n = act (home (kindOf n)) s n .says
+
+  -- its held rows
+  unfoldable pub holdsOf : State X → N → List (Held X)
+  holdsOf s n = act (home (kindOf n)) s n .holds
+
+  -- its unmapped names
+  unfoldable pub straysOf : State X → N → List (Unmapped X)
+  straysOf s n = act (home (kindOf n)) s n .strays
+
+  -- mandate and creditor identifier join a direct debit, make one where no means exist, else 25, then 26
+  pub record Debit : Type 0 where
+    pub means : Means X
+    pub mandate : Option X
+    pub creditor : Option X
+    pub says : List (Entry X)
+
+  -- beside a card or transfers both are lost and said
+  unfoldable pub besides : Means X → Option X → Option X → Debit
+  besides m a c =
+      record {
+        means = m;
+        mandate = none;
+        creditor = none;
+        says =
+            maybe [] (λ x. entry L D Message.MandateBesideOther (site Path.PaymentTermsDirectDebitMandate Term.None) none ∷ []) a ++
+            maybe [] (λ x. entry L D Message.CreditorBesideOther (site Path.SettlementCreditorReference Term.None) none ∷ []) c;
+      }
+
+  -- by the kind of means
+  unfoldable pub debited : Means X → Option X → Option X → Debit
+  debited unset a c = record { means = cond (isNone a) (cond (isNone c) unset (debit none)) (debit none); mandate = a; creditor = c; says = [] }
+  debited (debit d) a c = record { means = debit d; mandate = a; creditor = c; says = [] }
+  debited (card x y) a c = besides (card x y) a c
+  debited transfers a c = besides transfers a c
+
+  -- of a state
+  unfoldable pub debitOf : State X → Debit
+  debitOf s = debited (s paymentMeans .means) (s paymentTerms .mandate) (s creditorReference)
+
+  -- at the end: no summation, then four absences; then 25 and 26
+  unfoldable pub lateOf : State X → List (Entry X)
+  lateOf s =
+      maybe
+      (missing L D Rule.Br12 (site Path.SettlementSummation Term.Bt106) ++
+      (missing L D Rule.Br13 (site Path.SettlementSummation Term.Bt109) ++
+      (missing L D Rule.Br14 (site Path.SettlementSummation Term.Bt112) ++ missing L D Rule.Br15 (site Path.SettlementSummation Term.Bt115))))
+      (λ t. []) (s summation) ++
+      debitOf s .says
+
+  -- the terms, after all children; BG-16 is there with a payment means, a reference, a mandate or a creditor identifier
+  unfoldable pub termsOf : State X → Terms X
+  termsOf s =
+      record {
+        bt5 = s invoiceCurrency;
+        bt6 = s taxCurrency;
+        bt7 = s tradeTax .point;
+        bt8 = s tradeTax .code;
+        bt9 = s paymentTerms .due;
+        bt19 = s accounting;
+        bt20 = s paymentTerms .note;
+        payee = s payee;
+        period = s period;
+        paid = s paymentMeans .met || (not (isNone (s paymentReference)) || (not (isNone (s paymentTerms .mandate)) || not (isNone (s creditorReference))));
+        bt81 = s paymentMeans .code;
+        bt82 = s paymentMeans .text;
+        bt83 = or none (s paymentReference);
+        means = debitOf s .means;
+        bt89 = debitOf s .mandate;
+        bt90 = debitOf s .creditor;
+        totals = or noTotals (s summation);
+      }
+
+  -- unmapped names ascend by parent, then by the bytes of the name
+  unfoldable pub unmappedOrder : Unmapped X → Unmapped X → Ordering
+  unmappedOrder a b =
+      cond (ltb (parentNumber (a .parent)) (parentNumber (b .parent))) Ordering·lt
+      (cond (ltb (parentNumber (b .parent)) (parentNumber (a .parent))) Ordering·gt
+      (order (D .bytes (a .name)) (D .bytes (b .name))))
+
+  -- the state after the children
+  unfoldable pub after : List N → State X
+  after cs = foldl step (blank X) cs
+
+  -- the reading of a settlement's children
+  unfoldable pub readingOf : List N → Reading X
+  readingOf cs =
+      record {
+        terms = termsOf (after cs);
+        held = said step holdsOf (blank X) cs;
+        entries = said step saysOf (blank X) cs ++ lateOf (after cs);
+        unmapped = foldl (λ l a. insertBy unmappedOrder a l) [] (said step straysOf (blank X) cs);
+      }
+
+  -- the reading of a settlement
+  unfoldable pub reading : N → Reading X
+  reading n = readingOf (D .kids n)

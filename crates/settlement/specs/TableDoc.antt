@@ -1,0 +1,35 @@
+-- The table as a document: records, and places of the text.
+use mathlib.Core.Bool.{cond}
+use mathlib.Core.List.{List}
+use mathlib.Core.Option.{Option, none, some}
+use Prim.Native.Nat.{ℕ, _+_, _-_, min}
+use lib.Dec.{eqb}
+use Rattle.text.specs.Span.{partOf}
+use Rattle.table.specs.Table.{cell, kids, attribute}
+use Rattle.report.specs.Rows.{Place}
+use Rattle.settlement.specs.Document.{Doc, maybe}
+
+-- a record's name: fields 2 and 3
+abbrev pub nameAt : List ℕ → ℕ → Place
+nameAt t r = record { start = cell t r 2; len = cell t r 3 }
+
+-- a record's text: fields 4 and 5
+abbrev pub textAt : List ℕ → ℕ → Place
+textAt t r = record { start = cell t r 4; len = cell t r 5 }
+
+-- an element's text, length 0 being no text (document 01, "From the tree to the table")
+unfoldable pub ownTextAt : List ℕ → ℕ → Option Place
+ownTextAt t r = cond (eqb (cell t r 5) 0) none (some (textAt t r))
+
+-- the document of a table and its text
+unfoldable pub tableDoc : List ℕ → List ℕ → Doc ℕ Place
+tableDoc t x =
+    record {
+      name = nameAt t;
+      text = ownTextAt t;
+      attr = λ r w. maybe none (λ a. some (textAt t a)) (attribute t x r w);
+      kids = kids t;
+      bytes = λ p. partOf x (p .start) (p .len);
+      cut = λ p a n. record { start = p .start + a; len = min n (p .len - a) };
+      empty = record { start = 0; len = 0 };
+    }

@@ -1,0 +1,182 @@
+-- The readings of single values: texts, amounts, percentages, dates and codes (document 01, `read.rs`).
+use mathlib.Core.Bool.{Bool, true, cond, _||_}
+use mathlib.Core.List.{List, [], _∷_}
+use mathlib.Core.Option.{Option, none, some}
+use Prim.Native.Nat.{ℕ, _-_}
+use Prim.Native.String.{String}
+use lib.Dec.{eqb}
+use lib.IntN.{ℤ, pos}
+use Rattle.text.specs.Answer.{Answer}
+use Rattle.text.specs.Order.{equal}
+use Rattle.text.specs.Trim.{trimmed, trimOf}
+use Rattle.text.specs.Utf8.{bytes}
+use Rattle.amount.specs.Amount.{parsedAmount}
+use Rattle.amount.specs.Decimal.{empty}
+use Rattle.amount.specs.Percentage.{parsedPercentage}
+use Rattle.codes.specs.Currency.{listed}
+use Rattle.codes.specs.DateFormat.{dateFormat}
+use Rattle.codes.specs.Rules.{inForce}
+use Rattle.codes.specs.Vat as Code
+use Rattle.codes.specs.declared.rules.Rule.{Rule}
+use Rattle.date.specs.Date.{parsedDate}
+use Rattle.report.specs.Rows.{Entry}
+use Rattle.report.specs.declared.message.Message.{Message}
+use Rattle.report.specs.declared.message.Message.the-variants as Message
+use Rattle.report.specs.declared.path.Path.{Path}
+use Rattle.report.specs.declared.term.Term.{Term}
+use Rattle.report.specs.declared.term.Term.the-variants as Term
+use Rattle.settlement.specs.Document.{Doc, maybe, or}
+
+-- what is lent beside the table: mode, rules number, invoice currency and specification identifier (none where empty)
+pub record Lent : Type 0 where
+  pub mode : ℕ
+  pub rules : ℕ
+  pub currency : List ℕ
+  pub identifier : List ℕ
+
+-- where an entry is made: path, term, and the index of the term's group
+pub record Site : Type 0 where
+  pub path : Path
+  pub term : Term
+  pub index : Option ℕ
+
+-- a site without a group
+abbrev pub site : Path → Term → Site
+site p t = record { path = p; term = t; index = none }
+
+-- a site in the group of an index
+abbrev pub grouped : Path → Term → ℕ → Site
+grouped p t g = record { path = p; term = t; index = some g }
+
+-- an answer with what is to be said
+abbrev pub Says : Type 0 → Type 0 → Type 0
+Says X A = A × List (Entry X)
+
+-- the messages of document 01's numbers: amounts 3, 4, 5; percentages 6, 7; dates 12, 13
+unfoldable pub amountMessage : ℕ → Message
+amountMessage n = cond (eqb n 3) Message.AmountMalformed (cond (eqb n 4) Message.TooManyDecimals Message.AmountOutOfRange)
+
+-- of a percentage
+unfoldable pub percentMessage : ℕ → Message
+percentMessage n = cond (eqb n 6) Message.NotADecimal Message.TooManyDigits
+
+-- of a date
+unfoldable pub dateMessage : ℕ → Message
+dateMessage n = cond (eqb n 12) Message.NotCcyymmdd Message.NoSuchDay
+
+module _ {N X : Type 0} (L : Lent) (D : Doc N X) where
+  -- an entry at a site
+  unfoldable pub entry : Message → Site → Option X → Entry X
+  entry m s v = record { message = m; path = s .path; term = s .term; index = s .index; value = v }
+
+  -- a text as a mode trims it
+  unfoldable pub trimIn : ℕ → X → X
+  trimIn mode x = D .cut x (trimmed mode (D .bytes x) .start) (trimmed mode (D .bytes x) .end - trimmed mode (D .bytes x) .start)
+
+  -- the same, absent where that leaves nothing
+  unfoldable pub filled : ℕ → X → Option X
+  filled mode x = cond (empty (trimOf mode (D .bytes x))) none (some (trimIn mode x))
+
+  -- an element's text, trimmed; blank is absent (`xml.rs`)
+  unfoldable pub textIn : ℕ → N → Option X
+  textIn mode n = maybe none (filled mode) (D .text n)
+
+  -- the same, kept as "" where it is blank
+  unfoldable pub ownText : ℕ → N → X
+  ownText mode n = or (D .empty) (textIn mode n)
+
+  -- the first child of a name
+  unfoldable pub first : List ℕ → List N → Option N
+  first w [] = none
+  first w (c ∷ cs) = cond (equal (D .bytes (D .name c)) w) (some c) (first w cs)
+
+  -- the same by its spelling
+  unfoldable pub kid : N → String → Option N
+  kid n w = first (bytes w) (D .kids n)
+
+  -- its text
+  unfoldable pub kidText : ℕ → N → String → Option X
+  kidText mode n w = maybe none (textIn mode) (kid n w)
+
+  -- an attribute, trimmed, empty being none
+  unfoldable pub attribute : N → String → Option X
+  attribute n a = maybe none (filled 0) (D .attr n (bytes a))
+
+  -- message 9 for a required term, where its rule is in force
+  unfoldable pub missing : Rule → Site → List (Entry X)
+  missing r s = cond (inForce (L .rules) r) (entry Message.Missing s none ∷ []) []
+
+  -- what a parse answered: the value, or its message with the text as the mode trims it
+  unfoldable pub answered : {A : Type 0} → (ℕ → Message) → Site → X → Answer A → Says X (Option A)
+  answered m s x a = maybe (none, entry (m (a .message)) s (some (trimIn (L .mode) x)) ∷ []) (λ v. (some v, [])) (a .value)
+
+  -- amount: no text, no entry; then currencyID, 1 then 2; then the parse
+  unfoldable pub wrongCurrency : X → Option Message
+  wrongCurrency c = cond (listed (D .bytes c)) (cond (empty (L .currency) || equal (L .currency) (D .bytes c)) none (some Message.OtherCurrency)) (some Message.UnlistedCurrency)
+
+  -- the amount that a text spells
+  unfoldable pub parsed : Site → X → Says X (Option ℤ)
+  parsed s x = answered amountMessage s x (parsedAmount (L .mode) (D .bytes x))
+
+  -- with a currency beside it
+  unfoldable pub inCurrency : Site → X → X → Says X (Option ℤ)
+  inCurrency s x c = maybe (parsed s x) (λ m. (none, entry m s (some c) ∷ [])) (wrongCurrency c)
+
+  -- with or without one
+  unfoldable pub amountFrom : Site → N → X → Says X (Option ℤ)
+  amountFrom s e x = maybe (parsed s x) (inCurrency s x) (attribute e "currencyID")
+
+  -- of an element
+  unfoldable pub amountOf : Site → N → Says X (Option ℤ)
+  amountOf s e = maybe (none, []) (λ x. cond (empty (trimOf (L .mode) (D .bytes x))) (none, []) (amountFrom s e x)) (D .text e)
+
+  -- of the first child of a name
+  unfoldable pub amount : Site → N → String → Says X (Option ℤ)
+  amount s n w = maybe (none, []) (amountOf s) (kid n w)
+
+  -- a required amount: absent is message 9 with the group's full path, failed is 0
+  unfoldable pub requiredAmount : Rule → Path → Site → N → String → Says X ℤ
+  requiredAmount r p s n w =
+      maybe (pos 0, missing r (record { path = p; term = s .term; index = s .index })) (λ x. (or (pos 0) (amount s n w .0), amount s n w .1)) (kidText (L .mode) n w)
+
+  -- a required code: absent is message 9 with the group's full path, and the placeholder ""
+  unfoldable pub requiredCode : Rule → Site → N → String → Says X X
+  requiredCode r s n w = maybe (D .empty, missing r s) (λ x. (x, [])) (kidText 0 n w)
+
+  -- percentage: no text, no entry; then the parse
+  unfoldable pub percentOf : Site → N → Says X (Option (ℤ × ℕ))
+  percentOf s e =
+      maybe (none, []) (λ x. cond (empty (trimOf (L .mode) (D .bytes x))) (none, []) (answered percentMessage s x (parsedPercentage (L .mode) (D .bytes x)))) (D .text e)
+
+  -- of the first child of a name
+  unfoldable pub percent : Site → N → String → Says X (Option (ℤ × ℕ))
+  percent s n w = maybe (none, []) (percentOf s) (kid n w)
+
+  -- message 8 where a type code is present and not VAT
+  unfoldable pub notVat : Site → N → List (Entry X)
+  notVat s n = maybe [] (λ x. cond (Code.vat (D .bytes x)) [] (entry Message.NotVat s (some x) ∷ [])) (kidText 0 n "TypeCode")
+
+  -- a date element: format 102 exactly or missing (11), CCYYMMDD (12), a day (13); entries show the text
+  unfoldable pub dateAnswer : Site → N → Answer ℕ → Says X (Option ℕ)
+  dateAnswer s e a = maybe (none, entry (dateMessage (a .message)) s (some (ownText (L .mode) e)) ∷ []) (λ d. (some d, [])) (a .value)
+
+  -- the format comes first
+  unfoldable pub dateFrom : Path → N → Says X (Option ℕ)
+  dateFrom p e =
+      cond (maybe true (λ f. dateFormat (D .bytes f)) (D .attr e (bytes "format")))
+      (dateAnswer (site p Term.None) e (parsedDate (L .mode) (maybe [] (D .bytes) (D .text e))))
+      (none, entry Message.DateFormat (site p Term.None) (some (ownText (L .mode) e)) ∷ [])
+
+  -- message 10 for the other spelling, and reading goes on
+  unfoldable pub otherSpelling : Path → N → Says X (Option ℕ)
+  otherSpelling p e = (dateFrom p e .0, entry Message.OtherDateElement (site p Term.None) (some (ownText (L .mode) e)) ∷ dateFrom p e .1)
+
+  -- DateTimeString, else DateString; which of them is the other spelling
+  unfoldable pub dateIn : Bool → Path → Path → N → Says X (Option ℕ)
+  dateIn b p q w =
+      maybe (maybe (none, []) (λ e. cond b (dateFrom q e) (otherSpelling q e)) (kid w "DateString"))
+      (λ e. cond b (otherSpelling p e) (dateFrom p e)) (kid w "DateTimeString")
+
+  -- the date in a child: TaxPointDate (b) is a DateString, every other a DateTimeString
+  unfoldable pub date : Bool → Path → Path → N → String → Says X (Option ℕ)
+  date b p q n w = maybe (none, []) (dateIn b p q) (kid n w)

@@ -1,0 +1,1 @@
+// The settlement reader: so far its definitions, in specs/.
