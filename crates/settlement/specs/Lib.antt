@@ -5,6 +5,8 @@ pub mod Values
 pub mod Tax
 pub mod Payments
 pub mod Summation
+pub mod Walk
 pub mod Settlement
 pub mod TableDoc
 pub mod Outcome
+pub mod Alike

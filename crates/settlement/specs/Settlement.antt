@@ -2,8 +2,7 @@
 use mathlib.Core.Bool.{Bool, false, cond, not, _||_}
 use mathlib.Core.List.{List, [], _∷_, _++_, foldl}
 use mathlib.Core.Option.{Option, none, some}
-use Prim.Native.Nat.{ℕ, suc, Ordering, Ordering·lt, Ordering·eq, Ordering·gt}
-use lib.Dec.{ltb}
+use Prim.Native.Nat.{ℕ, suc, Ordering}
 use Rattle.text.specs.Order.{order}
 use Rattle.text.specs.Utf8.{bytes}
 use Rattle.codes.specs.declared.rules.Rule.the-variants as Rule
@@ -20,23 +19,7 @@ use Rattle.settlement.specs.Values.{Lent, site, grouped, entry, ownText,
 use Rattle.settlement.specs.Tax.{tradeTaxOf, allowanceOrCharge, logistics}
 use Rattle.settlement.specs.Payments.{paymentMeansOf}
 use Rattle.settlement.specs.Summation.{totals, isNone}
-
--- all that is said on the way of a fold
-module _ {C S O : Type 0} (step : S → C → S) (emit : S → C → List O) where
-  -- in order, each with the state before it
-  unfoldable pub said : S → List C → List O
-  said s [] = []
-  said s (c ∷ cs) = emit s c ++ said (step s c) cs
-
--- insertion into a list in order, which keeps the first of two alike
-unfoldable pub insertBy : {A : Type 0} → (A → A → Ordering) → A → List A → List A
-insertBy f a [] = a ∷ []
-insertBy f a (b ∷ l) = elimOrder (f a b) (a ∷ b ∷ l) (b ∷ l) (b ∷ insertBy f a l)
-  where
-    elimOrder : Ordering → {A : Type 0} → A → A → A → A
-    elimOrder Ordering·lt x y z = x
-    elimOrder Ordering·eq x y z = y
-    elimOrder Ordering·gt x y z = z
+use Rattle.settlement.specs.Walk.{said, insertAll}
 
 module _ {N X : Type 0} (L : Lent) (D : Doc N X) where
   -- scheme: schemeID if there, else listID, untrimmed
@@ -103,9 +86,17 @@ module _ {N X : Type 0} (L : Lent) (D : Doc N X) where
   unfoldable pub kindOf : N → Kind
   kindOf n = kindNamed (D .bytes (D .name n))
 
-  -- BT-5 and BT-6 as read so far, which only the summation sees
+  -- BT-5 and BT-6 as read so far
+  unfoldable pub soFar : State X → Currencies X
+  soFar s = record { bt5 = s invoiceCurrency; bt6 = s taxCurrency }
+
+  -- what any other child sees of them
+  unfoldable pub unseen : Currencies X
+  unseen = record { bt5 = none; bt6 = none }
+
+  -- only the summation sees them
   unfoldable pub seen : Kind → State X → Currencies X
-  seen k s = cond (sameKind k summation) (record { bt5 = s invoiceCurrency; bt6 = s taxCurrency }) (record { bt5 = none; bt6 = none })
+  seen k s = cond (sameKind k summation) (soFar s) unseen
 
   -- what a child does on a lane
   unfoldable pub act : (l : Kind) → State X → N → Act X (Of X l)
@@ -192,10 +183,7 @@ module _ {N X : Type 0} (L : Lent) (D : Doc N X) where
 
   -- unmapped names ascend by parent, then by the bytes of the name
   unfoldable pub unmappedOrder : Unmapped X → Unmapped X → Ordering
-  unmappedOrder a b =
-      cond (ltb (parentNumber (a .parent)) (parentNumber (b .parent))) Ordering·lt
-      (cond (ltb (parentNumber (b .parent)) (parentNumber (a .parent))) Ordering·gt
-      (order (D .bytes (a .name)) (D .bytes (b .name))))
+  unmappedOrder a b = order (parentNumber (a .parent) ∷ D .bytes (a .name)) (parentNumber (b .parent) ∷ D .bytes (b .name))
 
   -- the state after the children
   unfoldable pub after : List N → State X
@@ -208,7 +196,7 @@ module _ {N X : Type 0} (L : Lent) (D : Doc N X) where
         terms = termsOf (after cs);
         held = said step holdsOf (blank X) cs;
         entries = said step saysOf (blank X) cs ++ lateOf (after cs);
-        unmapped = foldl (λ l a. insertBy unmappedOrder a l) [] (said step straysOf (blank X) cs);
+        unmapped = insertAll unmappedOrder [] (said step straysOf (blank X) cs);
       }
 
   -- the reading of a settlement

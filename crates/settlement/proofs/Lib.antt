@@ -1,0 +1,4 @@
+pub mod Walks
+pub mod Sorting
+pub mod Lanes
+pub mod Exchange
