@@ -30,11 +30,11 @@ other-one X e = subst (λ (l : Kind). IsProp (Of X l)) e Unit-prop
 
 module _ {N X : Type 0} (L : Lent) (D : Doc N X) where
   -- different lanes, or both unmapped
-  abbrev Lanes : N → N → Type 0
+  abbrev pub Lanes : N → N → Type 0
   Lanes x y = (sameKind (home (kindOf L D x)) (home (kindOf L D y)) ≡ false) ⊎ ((kindOf L D x ≡ other) × (kindOf L D y ≡ other))
 
   -- neither currency's
-  abbrev NoCurrency : N → Type 0
+  abbrev pub NoCurrency : N → Type 0
   NoCurrency y = (sameKind invoiceCurrency (home (kindOf L D y)) ≡ false) × (sameKind taxCurrency (home (kindOf L D y)) ≡ false)
 
   -- two children that may change places: they have lanes of their own, and a summation's other is no currency

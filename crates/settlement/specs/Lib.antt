@@ -10,3 +10,4 @@ pub mod Settlement
 pub mod TableDoc
 pub mod Outcome
 pub mod Alike
+pub mod Exchange

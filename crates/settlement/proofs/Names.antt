@@ -1,0 +1,143 @@
+-- Demand 3 within a document: names alone say which children may change places.
+use mathlib.Core.Path.{_≡_, refl, sym, ap, _∙_}
+use mathlib.Core.Bool.{Bool, true, false, cond, true≢false}
+use mathlib.Core.List.{List, [], _∷_}
+use mathlib.Core.Logic.{_⊎_, inl, inr, _≢_}
+use Prim.Native.Nat.{ℕ}
+use Prim.Native.String.{String}
+use Rattle.text.specs.Order.{equal}
+use Rattle.text.specs.Utf8.{bytes}
+use Rattle.text.proofs.Orders.{equal-is, order-is, order-turned, order-trans}
+use Rattle.report.specs.Parent.{parentNumber}
+use Rattle.report.specs.Rows.{Unmapped}
+use Rattle.report.proofs.Numbers.{parent-same}
+use Rattle.settlement.specs.Document.{Doc}
+use Rattle.settlement.specs.Kinds.{Kind, creditorReference, paymentReference, taxCurrency, invoiceCurrency, payee, paymentMeans, tradeTax, period, allowanceCharge, logisticsCharge, paymentTerms, summation, precedingInvoice, accounting, other, Kind-discrete, sameKind, home, meant, kinds, kindNamed}
+use Rattle.settlement.specs.Values.{Lent}
+use Rattle.settlement.specs.Settlement.{kindOf, unmappedOrder, reading}
+use Rattle.settlement.specs.Alike.{Alike}
+use Rattle.settlement.specs.Exchange.{Pair, LeftOut, Exchanged}
+use Rattle.settlement.proofs.Sorting.{Total}
+use Rattle.settlement.proofs.Lanes.{sameKind-eq, sameKind-no, home-cases, Charges, home-same}
+use Rattle.settlement.proofs.Exchange.{Lanes, NoCurrency, Free, exchange}
+
+-- the name of a kind
+abbrev kindName : Kind → String
+kindName creditorReference = "CreditorReferenceID"
+kindName paymentReference = "PaymentReference"
+kindName taxCurrency = "TaxCurrencyCode"
+kindName invoiceCurrency = "InvoiceCurrencyCode"
+kindName payee = "PayeeTradeParty"
+kindName paymentMeans = "SpecifiedTradeSettlementPaymentMeans"
+kindName tradeTax = "ApplicableTradeTax"
+kindName period = "BillingSpecifiedPeriod"
+kindName allowanceCharge = "SpecifiedTradeAllowanceCharge"
+kindName logisticsCharge = "SpecifiedLogisticsServiceCharge"
+kindName paymentTerms = "SpecifiedTradePaymentTerms"
+kindName summation = "SpecifiedTradeSettlementHeaderMonetarySummation"
+kindName precedingInvoice = "InvoiceReferencedDocument"
+kindName accounting = "ReceivableSpecifiedTradeAccountingAccount"
+kindName other = ""
+
+-- a list that has each kind under its name
+abbrev Named : List (String × Kind) → Type 0
+Named [] = Unit {0}
+Named (c ∷ cs) = (c .0 ≡ kindName (c .1)) × Named cs
+
+kinds-named : Named kinds
+unfolding kinds
+kinds-named = (refl, (refl, (refl, (refl, (refl, (refl, (refl, (refl, (refl, (refl, (refl, (refl, (refl, (refl, tt))))))))))))))
+
+meant-name : (cs : List (String × Kind)) → Named cs → (s : List ℕ) → (meant other cs s ≡ other) ⊎ (s ≡ bytes (kindName (meant other cs s)))
+unfolding meant
+meant-name [] h s = inl refl
+meant-name (c ∷ cs) h s = go (equal s (bytes (c .0))) refl (meant-name cs (h .1) s)
+  where
+    go : (b : Bool) → equal s (bytes (c .0)) ≡ b → (meant other cs s ≡ other) ⊎ (s ≡ bytes (kindName (meant other cs s))) → (cond b (c .1) (meant other cs s) ≡ other) ⊎ (s ≡ bytes (kindName (cond b (c .1) (meant other cs s))))
+    go true e i = inr (equal-is s (bytes (c .0)) e ∙ ap bytes (h .0))
+    go false e i = i
+
+module _ {N X : Type 0} (L : Lent) (D : Doc N X) where
+  abbrev name : N → List ℕ
+  name n = D .bytes (D .name n)
+
+  -- a kind that is read has its name
+  kind-name : (n : N) (k : Kind) → kindOf L D n ≡ k → k ≢ other → name n ≡ bytes (kindName k)
+  unfolding kindOf kindNamed
+  kind-name n k e d = go (meant-name kinds kinds-named (name n))
+    where
+      go : (meant other kinds (name n) ≡ other) ⊎ (name n ≡ bytes (kindName (meant other kinds (name n)))) → name n ≡ bytes (kindName k)
+      go (inl o) = absurd (d (sym e ∙ o))
+      go (inr s) = s ∙ ap (λ (i : Kind). bytes (kindName i)) e
+
+  home-is : (k l : Kind) → home k ≡ l → l ≢ allowanceCharge → k ≡ l
+  unfolding home sameKind
+  home-is k l e d = go (home-cases k)
+    where
+      go : (home k ≡ k) ⊎ (k ≡ logisticsCharge) → k ≡ l
+      go (inl p) = sym p ∙ e
+      go (inr p) = absurd (d (sym e ∙ ap home p))
+
+  -- two names of one kind: both are unmapped
+  both-other : (x y : N) → kindOf L D x ≡ kindOf L D y → name x ≢ name y → kindOf L D x ≡ other
+  both-other x y e d = go (Kind-discrete (kindOf L D x) other)
+    where
+      go : Dec (kindOf L D x ≡ other) → kindOf L D x ≡ other
+      go (yes p) = p
+      go (no p) = absurd (d (kind-name x (kindOf L D x) refl p ∙ sym (kind-name y (kindOf L D x) (sym e) p)))
+
+  charges : (x y : N) → Charges (kindOf L D x) (kindOf L D y) → Pair (name x) (name y)
+  charges x y c = inr (inr (kind-name x allowanceCharge (c .fst) (λ e. true≢false cc), kind-name y logisticsCharge (c .snd) (λ e. true≢false cc)))
+
+  lanes : (x y : N) → name x ≢ name y → ¬ LeftOut (name x) (name y) → Dec (home (kindOf L D x) ≡ home (kindOf L D y)) → Lanes L D x y
+  lanes x y d a (no p) = inl (sameKind-no (home (kindOf L D x)) (home (kindOf L D y)) p)
+  lanes x y d a (yes p) = go (home-same (kindOf L D x) (kindOf L D y) p)
+    where
+      go : (kindOf L D x ≡ kindOf L D y) ⊎ (Charges (kindOf L D x) (kindOf L D y) ⊎ Charges (kindOf L D y) (kindOf L D x)) → Lanes L D x y
+      go (inl e) = inr (both-other x y e d, sym e ∙ both-other x y e d)
+      go (inr (inl c)) = absurd (a (inl (charges x y c)))
+      go (inr (inr c)) = absurd (a (inr (charges y x c)))
+
+  money : (x y : N) → ¬ LeftOut (name x) (name y) → kindOf L D x ≡ summation → NoCurrency L D y
+  money x y a e = (
+    sameKind-no invoiceCurrency (home (kindOf L D y)) (λ p. a (inr (inl (kind-name y invoiceCurrency (home-is (kindOf L D y) invoiceCurrency (sym p) (λ q. true≢false cc)) (λ q. true≢false cc), sum)))),
+    sameKind-no taxCurrency (home (kindOf L D y)) (λ p. a (inr (inr (inl (kind-name y taxCurrency (home-is (kindOf L D y) taxCurrency (sym p) (λ q. true≢false cc)) (λ q. true≢false cc), sum))))),
+  )
+    where
+      sum : name x ≡ bytes (kindName summation)
+      sum = kind-name x summation e (λ q. true≢false cc)
+
+  free : (x y : N) → name x ≢ name y → ¬ LeftOut (name x) (name y) → Free L D x y
+  free x y d a = record { lanes = lanes x y d a (Kind-discrete (home (kindOf L D x)) (home (kindOf L D y))); money = λ e. money x y a (sameKind-eq (kindOf L D x) summation e) }
+
+turned : {a b : List ℕ} → ¬ LeftOut a b → ¬ LeftOut b a
+turned h (inl p) = h (inr p)
+turned h (inr p) = h (inl p)
+
+-- where texts stand for themselves, unmapped names are in a total order
+module _ {N : Type 0} (L : Lent) (D : Doc N (List ℕ)) (plain : (s : List ℕ) → D .bytes s ≡ s) where
+  unmapped-total : Total (unmappedOrder L D)
+  unfolding unmappedOrder
+  unmapped-total =
+      record {
+        turned = λ a b. order-turned (key a) (key b);
+        same = λ a b e. same a b (order-is (key a) (key b) e);
+        trans = λ a b c. order-trans (key a) (key b) (key c);
+      }
+    where
+      key : Unmapped (List ℕ) → List ℕ
+      key a = parentNumber (a .parent) ∷ D .bytes (a .name)
+
+      same : (a b : Unmapped (List ℕ)) → parentNumber (a .parent) ∷ D .bytes (a .name) ≡ parentNumber (b .parent) ∷ D .bytes (b .name) → a ≡ b
+      same a b e =
+          let p : a .parent ≡ b .parent = parent-same (a .parent) (b .parent) (cc) in
+          let h : D .bytes (a .name) ≡ D .bytes (b .name) = cc in
+          let n : a .name ≡ b .name = sym (plain (a .name)) ∙ h ∙ plain (b .name) in
+          λ i. record { parent = p i; name = n i }
+
+  -- two settlements that differ by an exchange have readings that differ in order alone
+  pub exchanged : (n m : N) → Exchanged D n m → Alike (reading L D n) (reading L D m)
+  unfolding reading
+  exchanged n m e =
+      rw (e .left, e .right)
+      (exchange L D unmapped-total (e .x) (e .y) (free L D (e .x) (e .y) (e .names) (e .allowed)) (free L D (e .y) (e .x) (λ p. e .names (sym p)) (turned (e .allowed))) (e .pre) (e .post))
