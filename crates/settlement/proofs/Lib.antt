@@ -3,3 +3,5 @@ pub mod Sorting
 pub mod Lanes
 pub mod Exchange
 pub mod Names
+pub mod Maps
+pub mod Natural

@@ -11,3 +11,4 @@ pub mod TableDoc
 pub mod Outcome
 pub mod Alike
 pub mod Exchange
+pub mod Shown

@@ -17,7 +17,7 @@ use Rattle.settlement.specs.Values.{Lent, site, entry, ownText, textIn, 
 
 -- the children of a payment means
 pub data Part : Type 0 where
-  typeCode information financialCard debtorAccount creditorAccount institution unread : Part
+  typeCode information financialCard debtorAccount creditorAccount institution unknown : Part
 
 -- their names; any other is unmapped
 unfoldable pub parts : List (String × Part)
@@ -46,7 +46,7 @@ provided o t (u ∷ l) = t ∷ provided o u l
 module _ {N X : Type 0} (L : Lent) (D : Doc N X) where
   -- what a child is
   unfoldable pub partOf : N → Part
-  partOf c = meant unread parts (D .bytes (D .name c))
+  partOf c = meant unknown parts (D .bytes (D .name c))
 
   -- what the model can't hold is said
   unfoldable pub notHeld : Message → Path → Paying X → Paying X
@@ -105,7 +105,7 @@ module _ {N X : Type 0} (L : Lent) (D : Doc N X) where
   part debtorAccount s c = firstMeans (s .payment .means) Message.DebitedAccountBesideOther Path.PaymentMeansDebtorAccount (debit (accountOf c)) s
   part creditorAccount s c = creditor (s .payment .means) c s
   part institution s c = providerOf (s .last) (s .rows) (kidText L D 0 c "BICID") s
-  part unread s c = record { payment = s .payment; last = s .last; rows = s .rows; says = s .says; strays = s .strays ++ (record { parent = Parent.PaymentMeans; name = D .name c } ∷ []) }
+  part unknown s c = record { payment = s .payment; last = s .last; rows = s .rows; says = s .says; strays = s .strays ++ (record { parent = Parent.PaymentMeans; name = D .name c } ∷ []) }
 
   -- one child more
   unfoldable pub paying : Paying X → N → Paying X

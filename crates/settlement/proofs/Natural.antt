@@ -1,0 +1,528 @@
+-- The reading does not look at places: it goes along with every map of documents.
+use mathlib.Core.Path.{_≡_, refl, sym, ap, ap₂, _∙_, fun-ext}
+use mathlib.Core.Bool.{Bool, true, false}
+use mathlib.Core.List.{List, [], _∷_, _++_, foldl, map}
+use mathlib.Core.Option.{Option, none, some, Option·map}
+use Prim.Native.Nat.{ℕ, Ordering, Ordering·lt, Ordering·eq, Ordering·gt}
+use Prim.Native.String.{String}
+use lib.IntN.{ℤ}
+use Rattle.text.specs.Answer.{Answer}
+use Rattle.codes.specs.declared.rules.Rule.{Rule}
+use Rattle.report.specs.Rows.{Entry, Transfer, AllowanceCharge, Unmapped, mapEntry, mapTransfer, mapVat, mapAllowanceCharge, mapPreceding, mapHeld, mapUnmapped}
+use Rattle.report.specs.declared.message.Message.{Message}
+use Rattle.report.specs.declared.message.Message.the-variants as Message
+use Rattle.report.specs.declared.path.Path.{Path}
+use Rattle.report.specs.declared.path.Path.the-variants as Path
+use Rattle.settlement.specs.Document.{Doc, maybe, or}
+use Rattle.settlement.specs.Shapes.{Means, unset, card, debit, transfers, Payment, VatState, Counts, Of, State, blank, Act, Currencies}
+use Rattle.settlement.specs.Values
+use Rattle.settlement.specs.Values.{Lent, Site, entry, trimIn, filled, textIn, ownText, first, kid, kidText, attribute, missing, answered, wrongCurrency, parsed, inCurrency, amountFrom, amountOf, amount, requiredAmount, requiredCode, percentOf, percent, notVat, dateAnswer, dateFrom, otherSpelling, dateIn, date}
+use Rattle.settlement.specs.Tax.{TaxPaths, GroupTerms, pointDate, freshCode, againCode, pointCode, tradeTaxOf, categoryIn, categoryOf, indicated, indicator, isCharge, allowanceChargeOf, counted, allowanceOrCharge, logisticsRead, logisticsLeft, logistics}
+use Rattle.settlement.specs.Payments.{Part, typeCode, information, financialCard, debtorAccount, creditorAccount, institution, unknown, Paying, partOf, notHeld, withMeans, firstMeans, accountOf, joined, lost, creditor, providerOf, part, paying, payingStart, paid, paymentMeansOf}
+use Rattle.settlement.specs.Summation.{Sum, required, allowanceTotal, chargeTotal, taxTotal, rounding, prepaid, unread, Summing, sumOf, isCurrency, withVat, taxIn, taxRead, taxAmount, taxTotalOf, summand, summing, summed, totals}
+use Rattle.settlement.specs.Walk.{said, placed, insert, insertAll}
+use Rattle.settlement.specs.Settlement.{Debit, identifierOf, payeeOf, quiet, periodOf, paymentTermsOf, precedingOf, own, kindOf, soFar, unseen, seen, act, step, saysOf, holdsOf, straysOf, besides, debited, debitOf, lateOf, termsOf, unmappedOrder, after, readingOf, reading}
+use Rattle.settlement.specs.Kinds.{Kind, creditorReference, paymentReference, taxCurrency, invoiceCurrency, payee, paymentMeans, tradeTax, period, allowanceCharge, logisticsCharge, paymentTerms, summation, precedingInvoice, accounting, other, sameKind, home}
+use Rattle.settlement.specs.Shown.{mapIdentifier, mapPayee, mapPaymentTerms, mapOf, mapTerms, mapReading, mapMeans, mapPayment, mapVatState, mapState, mapAct, mapCurrencies}
+use Rattle.settlement.proofs.Maps.{cond-map, maybe-map, orElse-map, or-map, none-map, map-append, mapSays, mapBoth, both-0, both-1, both-pair, both-maybe, says-0, says-1, says-pair, says-maybe, says-cond, option-maybe, option-cond, entries-cond, entries-maybe, act-cond, unmapped-map, charge-map, provided-map, transfers-map, mapPaying, mapSumming, summing-cond}
+
+-- a map of documents: of their elements and of their texts
+pub record Hom {N M X Y : Type 0} (D : Doc N X) (E : Doc M Y) (h : N → M) (v : X → Y) : Type 0 where
+  pub name : (n : N) → E .name (h n) ≡ v (D .name n)
+  pub text : (n : N) → E .text (h n) ≡ Option·map v (D .text n)
+  pub attr : (n : N) (a : List ℕ) → E .attr (h n) a ≡ Option·map v (D .attr n a)
+  pub kids : (n : N) → E .kids (h n) ≡ map h (D .kids n)
+  pub bytes : (x : X) → E .bytes (v x) ≡ D .bytes x
+  pub cut : (x : X) (a b : ℕ) → E .cut (v x) a b ≡ v (D .cut x a b)
+  pub empty : E .empty ≡ v (D .empty)
+
+ruleset maps = (maybe-map, option-maybe, option-cond, says-maybe, says-cond, says-pair, says-0, says-1, entries-maybe, entries-cond, unmapped-map, map-append, summing-cond, act-cond, orElse-map, transfers-map)
+
+insert-map : {A B : Type 0} (c : A → A → Ordering) (d : B → B → Ordering) (f : A → B) (e : (a b : A) → d (f a) (f b) ≡ c a b) (u : A) (l : List A) → map f (insert c u l) ≡ insert d (f u) (map f l)
+unfolding insert
+insert-map c d f e u [] = refl
+insert-map {B = B} c d f e u (w ∷ l) = rw (e u w) (go (c u w) (insert-map c d f e u l))
+  where
+    go : (o : Ordering) {r : List B} → map f (insert c u l) ≡ r → map f (placed c o u w l (insert c u l)) ≡ placed d o (f u) (f w) (map f l) r
+    go Ordering·lt h = refl
+    go Ordering·eq h = refl
+    go Ordering·gt h = ap (λ (t : List B). f w ∷ t) h
+
+insertAll-map : {A B : Type 0} (c : A → A → Ordering) (d : B → B → Ordering) (f : A → B) (e : (a b : A) → d (f a) (f b) ≡ c a b) (l us : List A) → map f (insertAll c l us) ≡ insertAll d (map f l) (map f us)
+unfolding insertAll
+insertAll-map c d f e l [] = refl
+insertAll-map {B = B} c d f e l (u ∷ us) = insertAll-map c d f e (insert c u l) us ∙ ap (λ (t : List B). insertAll d t (map f us)) (insert-map c d f e u l)
+
+module _ {N M X Y : Type 0} (L : Lent) (D : Doc N X) (E : Doc M Y) (h : N → M) (v : X → Y) (H : Hom D E h v) where
+  entry-n : (m : Message) (s : Site) (o : Option X) → mapEntry v (entry L D m s o) ≡ entry L E m s (Option·map v o)
+  unfolding entry mapEntry
+  entry-n m s o = refl
+
+  trimIn-n : (mode : ℕ) (x : X) → trimIn L E mode (v x) ≡ v (trimIn L D mode x)
+  unfolding trimIn
+  trimIn-n mode x = simp (H .bytes, H .cut)
+
+  filled-n : (mode : ℕ) (x : X) → filled L E mode (v x) ≡ Option·map v (filled L D mode x)
+  unfolding filled
+  filled-n mode x = simp (maps, trimIn-n, H .bytes)
+
+  textIn-n : (mode : ℕ) (n : N) → textIn L E mode (h n) ≡ Option·map v (textIn L D mode n)
+  unfolding textIn
+  textIn-n mode n = simp (maps, H .text, filled-n)
+
+  ownText-n : (mode : ℕ) (n : N) → ownText L E mode (h n) ≡ v (ownText L D mode n)
+  unfolding ownText
+  ownText-n mode n = simp (textIn-n, H .empty, or-map v)
+
+  first-n : (w : List ℕ) (cs : List N) → first L E w (map h cs) ≡ Option·map h (first L D w cs)
+  unfolding first
+  first-n w [] = refl
+  first-n w (c ∷ cs) = rw (first-n w cs) (simp (maps, H .name, H .bytes))
+
+  kid-n : (n : N) (w : String) → kid L E (h n) w ≡ Option·map h (kid L D n w)
+  unfolding kid
+  kid-n n w = simp (H .kids, first-n)
+
+  kidText-n : (mode : ℕ) (n : N) (w : String) → kidText L E mode (h n) w ≡ Option·map v (kidText L D mode n w)
+  unfolding kidText
+  kidText-n mode n w = simp (maps, kid-n, textIn-n)
+
+  attribute-n : (n : N) (a : String) → attribute L E (h n) a ≡ Option·map v (attribute L D n a)
+  unfolding attribute
+  attribute-n n a = simp (maps, H .attr, filled-n)
+
+  missing-n : (r : Rule) (s : Site) → missing L E r s ≡ map (mapEntry v) (missing L D r s)
+  unfolding missing
+  missing-n r s = simp (maps, entry-n)
+
+  answered-n : {A : Type 0} (m : ℕ → Message) (s : Site) (x : X) (a : Answer A) → answered L E m s (v x) a ≡ mapSays v (answered L D m s x a)
+  unfolding answered
+  answered-n m s x a = simp (maps, entry-n, trimIn-n)
+
+  wrongCurrency-n : (c : X) → wrongCurrency L E (v c) ≡ wrongCurrency L D c
+  unfolding wrongCurrency
+  wrongCurrency-n c = simp (H .bytes)
+
+  parsed-n : (s : Site) (x : X) → parsed L E s (v x) ≡ mapSays v (parsed L D s x)
+  unfolding parsed
+  parsed-n s x = simp (H .bytes, answered-n)
+
+  inCurrency-n : (s : Site) (x c : X) → inCurrency L E s (v x) (v c) ≡ mapSays v (inCurrency L D s x c)
+  unfolding inCurrency
+  inCurrency-n s x c = simp (maps, wrongCurrency-n, parsed-n, entry-n)
+
+  amountFrom-n : (s : Site) (e : N) (x : X) → amountFrom L E s (h e) (v x) ≡ mapSays v (amountFrom L D s e x)
+  unfolding amountFrom
+  amountFrom-n s e x = simp (maps, attribute-n, parsed-n, inCurrency-n)
+
+  amountOf-n : (s : Site) (e : N) → amountOf L E s (h e) ≡ mapSays v (amountOf L D s e)
+  unfolding amountOf
+  amountOf-n s e = simp (maps, H .text, H .bytes, amountFrom-n)
+
+  amount-n : (s : Site) (n : N) (w : String) → amount L E s (h n) w ≡ mapSays v (amount L D s n w)
+  unfolding amount
+  amount-n s n w = simp (maps, kid-n, amountOf-n)
+
+  requiredAmount-n : (r : Rule) (p : Path) (s : Site) (n : N) (w : String) → requiredAmount L E r p s (h n) w ≡ mapSays v (requiredAmount L D r p s n w)
+  unfolding requiredAmount
+  requiredAmount-n r p s n w = simp (maps, kidText-n, amount-n, missing-n)
+
+  requiredCode-n : (r : Rule) (s : Site) (n : N) (w : String) → requiredCode L E r s (h n) w ≡ mapBoth v v (requiredCode L D r s n w)
+  unfolding requiredCode
+  requiredCode-n r s n w = simp (maps, kidText-n, H .empty, missing-n, both-maybe v v, both-pair v v)
+
+  percentOf-n : (s : Site) (e : N) → percentOf L E s (h e) ≡ mapSays v (percentOf L D s e)
+  unfolding percentOf
+  percentOf-n s e = simp (maps, H .text, H .bytes, answered-n)
+
+  percent-n : (s : Site) (n : N) (w : String) → percent L E s (h n) w ≡ mapSays v (percent L D s n w)
+  unfolding percent
+  percent-n s n w = simp (maps, kid-n, percentOf-n)
+
+  notVat-n : (s : Site) (n : N) → notVat L E s (h n) ≡ map (mapEntry v) (notVat L D s n)
+  unfolding notVat
+  notVat-n s n = simp (maps, kidText-n, H .bytes, entry-n)
+
+  dateAnswer-n : (s : Site) (e : N) (a : Answer ℕ) → dateAnswer L E s (h e) a ≡ mapSays v (dateAnswer L D s e a)
+  unfolding dateAnswer
+  dateAnswer-n s e a = simp (maps, ownText-n, entry-n)
+
+  dateFrom-n : (p : Path) (e : N) → dateFrom L E p (h e) ≡ mapSays v (dateFrom L D p e)
+  unfolding dateFrom
+  dateFrom-n p e = simp (maps, H .attr, H .text, H .bytes, dateAnswer-n, ownText-n, entry-n)
+
+  otherSpelling-n : (p : Path) (e : N) → otherSpelling L E p (h e) ≡ mapSays v (otherSpelling L D p e)
+  unfolding otherSpelling
+  otherSpelling-n p e = simp (maps, dateFrom-n, ownText-n, entry-n)
+
+  dateIn-n : (b : Bool) (p q : Path) (e : N) → dateIn L E b p q (h e) ≡ mapSays v (dateIn L D b p q e)
+  unfolding dateIn
+  dateIn-n b p q e = simp (maps, kid-n, dateFrom-n, otherSpelling-n)
+
+  date-n : (b : Bool) (p q : Path) (n : N) (w : String) → date L E b p q (h n) w ≡ mapSays v (date L D b p q n w)
+  unfolding date
+  date-n b p q n w = simp (maps, kid-n, dateIn-n)
+
+  -- VAT, allowances and charges
+  pointDate-n : (s : VatState X) (n : N) → pointDate L E (mapVatState v s) (h n) ≡ mapSays v (pointDate L D s n)
+  unfolding pointDate mapVatState
+  pointDate-n s n = simp (maps, date-n)
+
+  freshCode-n : (s : VatState X) (x : X) (a : Answer ℕ) → freshCode L E (mapVatState v s) (v x) a ≡ mapBoth v (mapVatState v) (freshCode L D s x a)
+  unfolding freshCode mapVatState
+  freshCode-n s x a = simp (maps, entry-n, both-pair v (mapVatState v))
+
+  againCode-n : (s : VatState X) (x f : X) → againCode L E (mapVatState v s) (v x) (v f) ≡ mapBoth v (mapVatState v) (againCode L D s x f)
+  unfolding againCode
+  againCode-n s x f = simp (maps, entry-n, both-pair v (mapVatState v), H .bytes)
+
+  pointCode-n : (s : VatState X) (n : N) → pointCode L E (mapVatState v s) (h n) ≡ mapBoth v (mapVatState v) (pointCode L D s n)
+  unfolding pointCode
+  pointCode-n s n = simp (maps, kidText-n, first-code, H .bytes, freshCode-n, againCode-n, both-maybe v (mapVatState v), both-pair v (mapVatState v))
+    where
+      first-code : mapVatState v s .first ≡ Option·map v (s .first)
+      first-code = unfold mapVatState in refl
+
+  tradeTaxOf-n : (s : VatState X) (n : N) → tradeTaxOf L E (mapVatState v s) (h n) ≡ mapAct v (mapVatState v) (tradeTaxOf L D s n)
+  unfolding tradeTaxOf mapAct mapVatState mapHeld mapVat
+  tradeTaxOf-n s n =
+      simp (maps, pointDate-n, pointCode-n, requiredAmount-n, requiredCode-n, percent-n, notVat-n, kidText-n, both-0 v v, both-1 v v, both-0 v (mapVatState v), both-1 v (mapVatState v))
+
+  abbrev inFront : X × Option (ℤ × ℕ) → Y × Option (ℤ × ℕ)
+  inFront p = (v (p .0), p .1)
+
+  categoryIn-n : (p : TaxPaths) (t : GroupTerms) (g : ℕ) (n : N) → categoryIn L E p t g (h n) ≡ mapBoth v inFront (categoryIn L D p t g n)
+  unfolding categoryIn
+  categoryIn-n p t g n = simp (maps, requiredCode-n, percent-n, notVat-n, both-0 v v, both-1 v v, both-pair v inFront)
+
+  categoryOf-n : (p : TaxPaths) (t : GroupTerms) (g : ℕ) (n : N) (w : String) → categoryOf L E p t g (h n) w ≡ mapBoth v inFront (categoryOf L D p t g n w)
+  unfolding categoryOf
+  categoryOf-n p t g n w = simp (maps, kid-n, H .empty, missing-n, categoryIn-n, both-maybe v inFront, both-pair v inFront)
+
+  indicated-n : (i : N) (a : Answer Bool) → indicated L E (h i) a ≡ mapSays v (indicated L D i a)
+  unfolding indicated
+  indicated-n i a = simp (maps, ownText-n, entry-n)
+
+  indicator-n : (n : N) → indicator L E (h n) ≡ Option·map h (indicator L D n)
+  unfolding indicator
+  indicator-n n = simp (maps, kid-n)
+
+  isCharge-n : (n : N) → isCharge L E (h n) ≡ mapSays v (isCharge L D n)
+  unfolding isCharge
+  isCharge-n n = simp (maps, indicator-n, ownText-n, H .bytes, indicated-n, entry-n)
+
+  allowanceChargeOf-n : (b : Bool) (g : ℕ) (n : N) → allowanceChargeOf L E b g (h n) ≡ mapBoth v (mapHeld v) (allowanceChargeOf L D b g n)
+  unfolding allowanceChargeOf
+  allowanceChargeOf-n b g n =
+      simp (maps, categoryOf-n, requiredAmount-n, amount-n, percent-n, kidText-n, both-0 v inFront, both-1 v inFront, both-pair v (mapHeld v), charge-map v, reduction-map)
+    where
+      reduction-map : (a : AllowanceCharge X) → mapAllowanceCharge v a ≡ record { amount = a .amount; base = a .base; percentage = a .percentage; category = v (a .category); rate = a .rate; reason = Option·map v (a .reason); code = Option·map v (a .code) }
+      reduction-map a = unfold mapAllowanceCharge in refl
+
+  counted-n : (b : Bool) (s : Counts) → counted L E b s ≡ counted L D b s
+  unfolding counted
+  counted-n b s = refl
+
+  allowanceOrCharge-n : (s : Counts) (n : N) → allowanceOrCharge L E s (h n) ≡ mapAct v (λ t. t) (allowanceOrCharge L D s n)
+  unfolding allowanceOrCharge mapAct
+  allowanceOrCharge-n s n = simp (maps, isCharge-n, allowanceChargeOf-n, counted-n, both-0 v (mapHeld v), both-1 v (mapHeld v))
+
+  logistics-n : (s : Counts) (n : N) → logistics L E s (h n) ≡ mapAct v (λ t. t) (logistics L D s n)
+  unfolding logistics logisticsRead logisticsLeft mapAct mapHeld mapAllowanceCharge
+  logistics-n s n = simp (maps, categoryOf-n, requiredAmount-n, kidText-n, counted-n, entry-n, both-0 v inFront, both-1 v inFront)
+
+  -- payment means
+  notHeld-n : (m : Message) (p : Path) (s : Paying X) → notHeld L E m p (mapPaying v s) ≡ mapPaying v (notHeld L D m p s)
+  unfolding notHeld mapPaying
+  notHeld-n m p s = simp (maps, entry-n)
+
+  withMeans-n : (m : Means X) (s : Paying X) → withMeans L E (mapMeans v m) (mapPaying v s) ≡ mapPaying v (withMeans L D m s)
+  unfolding withMeans mapPaying mapPayment
+  withMeans-n m s = refl
+
+  firstMeans-n : (k : Means X) (m : Message) (p : Path) (new : Means X) (s : Paying X) → firstMeans L E (mapMeans v k) m p (mapMeans v new) (mapPaying v s) ≡ mapPaying v (firstMeans L D k m p new s)
+  unfolding firstMeans mapMeans
+  firstMeans-n unset m p new s = withMeans-n new s
+  firstMeans-n (card a b) m p new s = notHeld-n m p s
+  firstMeans-n (debit a) m p new s = notHeld-n m p s
+  firstMeans-n transfers m p new s = notHeld-n m p s
+
+  accountOf-n : (c : N) → accountOf L E (h c) ≡ Option·map v (accountOf L D c)
+  unfolding accountOf
+  accountOf-n c = simp (maps, kidText-n)
+
+  joined-n : (c : N) (s : Paying X) → joined L E (h c) (mapPaying v s) ≡ mapPaying v (joined L D c s)
+  unfolding joined mapPaying mapPayment mapMeans mapTransfer
+  joined-n c s = simp (maps, accountOf-n, kidText-n)
+
+  lost-n : (s : Paying X) → lost L E (mapPaying v s) ≡ mapPaying v (lost L D s)
+  unfolding lost mapPaying
+  lost-n s = notHeld-n Message.AccountBesideOther Path.PaymentMeansCreditorAccount (record { payment = s .payment; last = false; rows = s .rows; says = s .says; strays = s .strays })
+
+  creditor-n : (k : Means X) (c : N) (s : Paying X) → creditor L E (mapMeans v k) (h c) (mapPaying v s) ≡ mapPaying v (creditor L D k c s)
+  unfolding creditor mapMeans
+  creditor-n unset c s = joined-n c s
+  creditor-n transfers c s = joined-n c s
+  creditor-n (card a b) c s = lost-n s
+  creditor-n (debit a) c s = lost-n s
+
+  providerOf-n : (b : Bool) (l : List (Transfer X)) (o : Option X) (s : Paying X) → providerOf L E b (map (mapTransfer v) l) (Option·map v o) (mapPaying v s) ≡ mapPaying v (providerOf L D b l o s)
+  unfolding providerOf mapPaying
+  providerOf-n true (t ∷ l) o s = rw (provided-map v o t l)
+  providerOf-n true [] none s = refl
+  providerOf-n true [] (some x) s = notHeld-n Message.ProviderWithoutAccount Path.PaymentMeansCreditorInstitution s
+  providerOf-n false l none s = refl
+  providerOf-n false l (some x) s = notHeld-n Message.ProviderWithoutAccount Path.PaymentMeansCreditorInstitution s
+
+  part-n : (p : Part) (s : Paying X) (c : N) → part L E p (mapPaying v s) (h c) ≡ mapPaying v (part L D p s c)
+  unfolding part mapPaying mapPayment mapMeans
+  part-n typeCode s c = simp (ownText-n, ← orElse-map)
+  part-n information s c = simp (maps, textIn-n)
+  part-n financialCard s c =
+      simp kidText-n (firstMeans-n (s .payment .means) Message.CardBesideOther Path.PaymentMeansFinancialCard (card (kidText L D 0 c "ID") (kidText L D 0 c "CardholderName")) s)
+  part-n debtorAccount s c = simp accountOf-n (firstMeans-n (s .payment .means) Message.DebitedAccountBesideOther Path.PaymentMeansDebtorAccount (debit (accountOf L D c)) s)
+  part-n creditorAccount s c = creditor-n (s .payment .means) c s
+  part-n institution s c = simp kidText-n (providerOf-n (s .last) (s .rows) (kidText L D 0 c "BICID") s)
+  part-n unknown s c = simp (maps, H .name)
+
+  partOf-n : (c : N) → partOf L E (h c) ≡ partOf L D c
+  unfolding partOf
+  partOf-n c = simp (H .name, H .bytes)
+
+  paying-n : (s : Paying X) (c : N) → paying L E (mapPaying v s) (h c) ≡ mapPaying v (paying L D s c)
+  unfolding paying
+  paying-n s c = rw (partOf-n c) (part-n (partOf L D c) s c)
+
+  foldl-n : {S T : Type 0} (f : S → N → S) (g : T → M → T) (m : S → T) → ((s : S) (c : N) → g (m s) (h c) ≡ m (f s c)) → (s : S) (cs : List N) → foldl g (m s) (map h cs) ≡ m (foldl f s cs)
+  foldl-n f g m e s [] = refl
+  foldl-n {T = T} f g m e s (c ∷ cs) = ap (λ (t : T). foldl g t (map h cs)) (e s c) ∙ foldl-n f g m e (f s c) cs
+
+  paid-n : (p : Payment X) (n : N) → paid L E (mapPayment v p) (h n) ≡ mapPaying v (paid L D p n)
+  unfolding paid payingStart mapPaying mapPayment
+  paid-n p n = rw (H .kids n) (foldl-n (paying L D) (paying L E) (mapPaying v) paying-n (payingStart L D p) (D .kids n))
+
+  paymentMeansOf-n : (p : Payment X) (n : N) → paymentMeansOf L E (mapPayment v p) (h n) ≡ mapAct v (mapPayment v) (paymentMeansOf L D p n)
+  unfolding paymentMeansOf mapAct mapPaying
+  paymentMeansOf-n p n = simp (maps, paid-n)
+
+  -- the summation
+  sumOf-n : (c : N) → sumOf L E (h c) ≡ sumOf L D c
+  unfolding sumOf
+  sumOf-n c = simp (H .name, H .bytes)
+
+  isCurrency-n : (o : Option X) (c : X) → isCurrency L E (Option·map v o) (v c) ≡ isCurrency L D o c
+  unfolding isCurrency
+  isCurrency-n o c = simp (maps, H .bytes)
+
+  taxIn-n : (cur : Currencies X) (a : Option ℤ) (es : List (Entry X)) (s : Summing X) (c : X) → taxIn L E (mapCurrencies v cur) a (map (mapEntry v) es) (mapSumming v s) (v c) ≡ mapSumming v (taxIn L D cur a es s c)
+  unfolding taxIn withVat mapCurrencies mapSumming
+  taxIn-n cur a es s c = simp (maps, isCurrency-n, entry-n)
+
+  taxRead-n : (c : N) (a : Answer ℤ) → taxRead L E (h c) a ≡ mapSays v (taxRead L D c a)
+  unfolding taxRead
+  taxRead-n c a = simp (maps, ownText-n, entry-n)
+
+  taxAmount-n : (c : N) → taxAmount L E (h c) ≡ mapSays v (taxAmount L D c)
+  unfolding taxAmount
+  taxAmount-n c = simp (maps, H .text, H .bytes, taxRead-n)
+
+  withVat-n : (a b : Option ℤ) (es : List (Entry X)) (s : Summing X) → withVat L E a b (map (mapEntry v) es) (mapSumming v s) ≡ mapSumming v (withVat L D a b es s)
+  unfolding withVat mapSumming
+  withVat-n a b es s = simp maps
+
+  summing-maybe : {A : Type 0} (b : Summing X) (f : A → Summing X) (o : Option A) → mapSumming v (maybe b f o) ≡ maybe (mapSumming v b) (λ a. mapSumming v (f a)) o
+  summing-maybe b f none = refl
+  summing-maybe b f (some a) = refl
+
+  taxTotalOf-n : (cur : Currencies X) (s : Summing X) (c : N) → taxTotalOf L E (mapCurrencies v cur) (mapSumming v s) (h c) ≡ mapSumming v (taxTotalOf L D cur s c)
+  unfolding taxTotalOf
+  taxTotalOf-n cur s c = simp (maps, taxAmount-n, attribute-n, summing-maybe, withVat-n, taxIn-n, accounting-n)
+    where
+      accounting-n : mapSumming v s .vatAccounting ≡ s .vatAccounting
+      accounting-n = unfold mapSumming in refl
+
+  summand-n : (k : Sum) (cur : Currencies X) (n : N) (s : Summing X) (c : N) → summand L E k (mapCurrencies v cur) (h n) (mapSumming v s) (h c) ≡ mapSumming v (summand L D k cur n s c)
+  unfolding summand mapSumming
+  summand-n required cur n s c = refl
+  summand-n allowanceTotal cur n s c = simp (maps, amount-n)
+  summand-n chargeTotal cur n s c = simp (maps, amount-n)
+  summand-n taxTotal cur n s c = taxTotalOf-n cur s c
+  summand-n rounding cur n s c = simp (maps, amount-n)
+  summand-n prepaid cur n s c = simp (maps, amount-n)
+  summand-n unread cur n s c = simp (maps, H .name)
+
+  summing-n : (cur : Currencies X) (n : N) (s : Summing X) (c : N) → summing L E (mapCurrencies v cur) (h n) (mapSumming v s) (h c) ≡ mapSumming v (summing L D cur n s c)
+  unfolding summing
+  summing-n cur n s c = rw (sumOf-n c) (summand-n (sumOf L D c) cur n s c)
+
+  summed-n : (cur : Currencies X) (n : N) → summed L E (mapCurrencies v cur) (h n) ≡ mapSumming v (summed L D cur n)
+  unfolding summed mapSumming
+  summed-n cur n =
+      rw (H .kids n)
+      (foldl-n (summing L D cur n) (summing L E (mapCurrencies v cur) (h n)) (mapSumming v) (summing-n cur n) (record { allowance = none; charge = none; vat = none; vatAccounting = none; rounded = none; paid = none; says = []; strays = [] }) (D .kids n))
+
+  totals-n : (cur : Currencies X) (n : N) → totals L E (mapCurrencies v cur) (h n) ≡ mapAct v (λ t. t) (totals L D cur n)
+  unfolding totals mapAct mapSumming
+  totals-n cur n = simp (maps, summed-n, requiredAmount-n)
+
+  -- the other children
+  identifierOf-n : (n : N) → identifierOf L E (h n) ≡ mapIdentifier v (identifierOf L D n)
+  unfolding identifierOf mapIdentifier
+  identifierOf-n n = simp (maps, H .attr, ownText-n)
+
+  payeeOf-n : (n : N) → payeeOf L E (h n) ≡ mapPayee v (payeeOf L D n)
+  unfolding payeeOf mapPayee
+  payeeOf-n n = simp (maps, kid-n, kidText-n, identifierOf-n)
+
+  periodOf-n : (n : N) → periodOf L E (h n) ≡ mapAct v (λ t. t) (periodOf L D n)
+  unfolding periodOf mapAct
+  periodOf-n n = simp (maps, date-n)
+
+  paymentTermsOf-n : (n : N) → paymentTermsOf L E (h n) ≡ mapAct v (mapPaymentTerms v) (paymentTermsOf L D n)
+  unfolding paymentTermsOf mapAct mapPaymentTerms
+  paymentTermsOf-n n = simp (maps, date-n, kid-n, H .text, kidText-n)
+
+  precedingOf-n : (g : ℕ) (n : N) → precedingOf L E g (h n) ≡ mapAct v (λ t. t) (precedingOf L D g n)
+  unfolding precedingOf mapAct mapHeld mapPreceding
+  precedingOf-n g n = simp (maps, requiredCode-n, date-n, both-0 v v, both-1 v v)
+
+  own-n : (l : Kind) (b : Bool) (s : Of X l) (cur : Currencies X) (n : N) → own L E l b (mapOf v l s) (mapCurrencies v cur) (h n) ≡ mapAct v (mapOf v l) (own L D l b s cur n)
+  unfolding own quiet mapAct
+  own-n creditorReference b s cur n = simp textIn-n
+  own-n paymentReference b s cur n = simp textIn-n
+  own-n taxCurrency b s cur n = simp ownText-n
+  own-n invoiceCurrency b s cur n = simp ownText-n
+  own-n payee b s cur n = simp payeeOf-n
+  own-n paymentMeans b s cur n = paymentMeansOf-n s n
+  own-n tradeTax b s cur n = tradeTaxOf-n s n
+  own-n period b s cur n = periodOf-n n
+  own-n allowanceCharge true s cur n = logistics-n s n
+  own-n allowanceCharge false s cur n = allowanceOrCharge-n s n
+  own-n logisticsCharge b s cur n = refl
+  own-n paymentTerms b s cur n = paymentTermsOf-n n
+  own-n summation b s cur n = totals-n cur n
+  own-n precedingInvoice b s cur n = precedingOf-n s n
+  own-n accounting b s cur n = simp kidText-n
+  own-n other b s cur n = simp (maps, H .name)
+
+  -- the walk
+  kindOf-n : (n : N) → kindOf L E (h n) ≡ kindOf L D n
+  unfolding kindOf
+  kindOf-n n = simp (H .name, H .bytes)
+
+  seen-n : (k : Kind) (s : State X) → seen L E k (mapState v s) ≡ mapCurrencies v (seen L D k s)
+  unfolding seen soFar unseen mapCurrencies
+  seen-n k s = sym (cond-map (mapCurrencies v) (sameKind k summation) (soFar L D s) (unseen L D))
+
+  act-n : (l : Kind) (s : State X) (n : N) → act L E l (mapState v s) (h n) ≡ mapAct v (mapOf v l) (act L D l s n)
+  unfolding act
+  act-n l s n = rw (kindOf-n n, seen-n (kindOf L D n) s) (own-n l (sameKind (kindOf L D n) logisticsCharge) (s l) (seen L D (kindOf L D n) s) n)
+
+  step-n : (s : State X) (n : N) → step L E (mapState v s) (h n) ≡ mapState v (step L D s n)
+  unfolding step mapAct
+  step-n s n = fun-ext (λ l. rw (kindOf-n n, act-n l s n) (sym (cond-map (mapOf v l) (sameKind l (home (kindOf L D n))) (act L D l s n .next) (s l))))
+
+  saysOf-n : (s : State X) (n : N) → saysOf L E (mapState v s) (h n) ≡ map (mapEntry v) (saysOf L D s n)
+  unfolding saysOf mapAct
+  saysOf-n s n =
+      ap (λ (k : Kind). act L E (home k) (mapState v s) (h n) .says) (kindOf-n n) ∙ ap (λ (a : Act Y (Of Y (home (kindOf L D n)))). a .says) (act-n (home (kindOf L D n)) s n)
+
+  holdsOf-n : (s : State X) (n : N) → holdsOf L E (mapState v s) (h n) ≡ map (mapHeld v) (holdsOf L D s n)
+  unfolding holdsOf mapAct
+  holdsOf-n s n =
+      ap (λ (k : Kind). act L E (home k) (mapState v s) (h n) .holds) (kindOf-n n) ∙ ap (λ (a : Act Y (Of Y (home (kindOf L D n)))). a .holds) (act-n (home (kindOf L D n)) s n)
+
+  straysOf-n : (s : State X) (n : N) → straysOf L E (mapState v s) (h n) ≡ map (mapUnmapped v) (straysOf L D s n)
+  unfolding straysOf mapAct
+  straysOf-n s n =
+      ap (λ (k : Kind). act L E (home k) (mapState v s) (h n) .strays) (kindOf-n n) ∙ ap (λ (a : Act Y (Of Y (home (kindOf L D n)))). a .strays) (act-n (home (kindOf L D n)) s n)
+
+  said-n : {A B : Type 0} (f : State X → N → List A) (g : State Y → M → List B) (m : A → B) → ((s : State X) (c : N) → g (mapState v s) (h c) ≡ map m (f s c)) → (s : State X) (cs : List N) → said (step L E) g (mapState v s) (map h cs) ≡ map m (said (step L D) f s cs)
+  unfolding said
+  said-n f g m e s [] = refl
+  said-n {B = B} f g m e s (c ∷ cs) =
+      ap₂ (λ (a b : List B). a ++ b) (e s c) (ap (λ (t : State Y). said (step L E) g t (map h cs)) (step-n s c) ∙ said-n f g m e (step L D s c) cs)
+      ∙ sym (map-append m (f s c) (said (step L D) f (step L D s c) cs))
+
+  blank-n : (k : Kind) → mapState v (blank X) k ≡ blank Y k
+  unfolding mapPayment mapMeans mapVatState mapPaymentTerms
+  blank-n creditorReference = refl
+  blank-n paymentReference = refl
+  blank-n taxCurrency = refl
+  blank-n invoiceCurrency = refl
+  blank-n payee = refl
+  blank-n paymentMeans = refl
+  blank-n tradeTax = refl
+  blank-n period = refl
+  blank-n allowanceCharge = refl
+  blank-n logisticsCharge = refl
+  blank-n paymentTerms = refl
+  blank-n summation = refl
+  blank-n precedingInvoice = refl
+  blank-n accounting = refl
+  blank-n other = refl
+
+  after-n : (cs : List N) → after L E (map h cs) ≡ mapState v (after L D cs)
+  unfolding after
+  after-n cs = ap (λ (s : State Y). foldl (step L E) s (map h cs)) (sym (fun-ext blank-n)) ∙ foldl-n (step L D) (step L E) (mapState v) step-n (blank X) cs
+
+  -- the end
+  unfoldable mapDebit : Debit L D → Debit L E
+  mapDebit d = record { means = mapMeans v (d .means); mandate = Option·map v (d .mandate); creditor = Option·map v (d .creditor); says = map (mapEntry v) (d .says) }
+
+  debited-n : (k : Means X) (a c : Option X) → debited L E (mapMeans v k) (Option·map v a) (Option·map v c) ≡ mapDebit (debited L D k a c)
+  unfolding debited besides mapDebit mapMeans entry mapEntry
+  debited-n unset none none = refl
+  debited-n unset none (some c) = refl
+  debited-n unset (some a) c = refl
+  debited-n (debit d) a c = refl
+  debited-n (card x y) none none = refl
+  debited-n (card x y) none (some c) = refl
+  debited-n (card x y) (some a) none = refl
+  debited-n (card x y) (some a) (some c) = refl
+  debited-n transfers none none = refl
+  debited-n transfers none (some c) = refl
+  debited-n transfers (some a) none = refl
+  debited-n transfers (some a) (some c) = refl
+
+  debitOf-n : (s : State X) → debitOf L E (mapState v s) ≡ mapDebit (debitOf L D s)
+  unfolding debitOf mapPayment mapPaymentTerms
+  debitOf-n s = debited-n (s paymentMeans .means) (s paymentTerms .mandate) (s creditorReference)
+
+  lateOf-n : (s : State X) → lateOf L E (mapState v s) ≡ map (mapEntry v) (lateOf L D s)
+  unfolding lateOf mapDebit
+  lateOf-n s = simp (maps, missing-n, debitOf-n)
+
+  reference-n : (o : Option (Option X)) → or none (Option·map (Option·map v) o) ≡ Option·map v (or none o)
+  reference-n none = refl
+  reference-n (some o) = refl
+
+  termsOf-n : (s : State X) → termsOf L E (mapState v s) ≡ mapTerms v (termsOf L D s)
+  unfolding termsOf mapTerms mapPayment mapVatState mapPaymentTerms mapDebit
+  termsOf-n s = simp (debitOf-n, none-map, reference-n)
+
+  order-n : (a b : Unmapped X) → unmappedOrder L E (mapUnmapped v a) (mapUnmapped v b) ≡ unmappedOrder L D a b
+  unfolding unmappedOrder mapUnmapped
+  order-n a b = simp (H .bytes)
+
+  said-blank : {A B : Type 0} (f : State X → N → List A) (g : State Y → M → List B) (m : A → B) → ((s : State X) (c : N) → g (mapState v s) (h c) ≡ map m (f s c)) → (cs : List N) → said (step L E) g (blank Y) (map h cs) ≡ map m (said (step L D) f (blank X) cs)
+  said-blank f g m e cs = ap (λ (s : State Y). said (step L E) g s (map h cs)) (sym (fun-ext blank-n)) ∙ said-n f g m e (blank X) cs
+
+  readingOf-n : (cs : List N) → readingOf L E (map h cs) ≡ mapReading v (readingOf L D cs)
+  unfolding readingOf mapReading
+  readingOf-n cs =
+      simp (
+        after-n,
+        termsOf-n,
+        lateOf-n,
+        map-append,
+        said-blank (holdsOf L D) (holdsOf L E) (mapHeld v) holdsOf-n,
+        said-blank (saysOf L D) (saysOf L E) (mapEntry v) saysOf-n,
+        said-blank (straysOf L D) (straysOf L E) (mapUnmapped v) straysOf-n,
+        insertAll-map (unmappedOrder L D) (unmappedOrder L E) (mapUnmapped v) order-n,
+      )
+
+  -- read, then map, is map, then read
+  pub reading-n : (n : N) → reading L E (h n) ≡ mapReading v (reading L D n)
+  unfolding reading
+  reading-n n = rw (H .kids n) (readingOf-n (D .kids n))
