@@ -5,3 +5,5 @@ pub mod Exchange
 pub mod Names
 pub mod Maps
 pub mod Natural
+pub mod Trees
+pub mod AnyOrder

@@ -8,7 +8,8 @@ pub mod Summation
 pub mod Walk
 pub mod Settlement
 pub mod TableDoc
+pub mod Shown
 pub mod Outcome
+pub mod Tree
 pub mod Alike
 pub mod Exchange
-pub mod Shown

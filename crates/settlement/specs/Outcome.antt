@@ -11,7 +11,9 @@ use Rattle.report.specs.Rows.{Place}
 use Rattle.settlement.specs.Shapes.{Reading}
 use Rattle.settlement.specs.Values.{Lent}
 use Rattle.settlement.specs.Settlement.{reading}
-use Rattle.settlement.specs.TableDoc.{tableDoc}
+use Rattle.settlement.specs.TableDoc.{shows, tableDoc}
+use Rattle.settlement.specs.Document.{orElse}
+use Rattle.settlement.specs.Shown.{mapReading}
 
 -- the room of the three lent lists, in numbers
 pub record Room : Type 0 where
@@ -38,16 +40,17 @@ cramped m t = ltb (m .held) (heldWidth * records t) || (ltb (m .entries) (4 * en
 
 -- the first refusal of all ten, with its record
 unfoldable pub callRefusal : Lent → Room → List ℕ → List ℕ → Option (ℕ × ℕ)
-callRefusal L m t x = refuse 1 (atRoot (unknownMode L)) (refuse 2 (atRoot (unknownRules L)) (tableRefusal (refusal t x)))
-  where
-    tableRefusal : Option (ℕ × ℕ) → Option (ℕ × ℕ)
-    tableRefusal none = refuse 10 (atRoot (cramped m t)) none
-    tableRefusal (some r) = some r
+callRefusal L m t x = refuse 1 (atRoot (unknownMode L)) (refuse 2 (atRoot (unknownRules L)) (orElse (refusal t x) (refuse 10 (atRoot (cramped m t)) none)))
+
+-- a reading counts where nothing is refused
+abbrev pub unless : Option (ℕ × ℕ) → Reading Place → Outcome
+unless none r = read r
+unless (some n) r = refused (n .0) (n .1)
 
 -- what a call answers
 unfoldable pub outcome : Lent → Room → List ℕ → List ℕ → Outcome
-outcome L m t x = answer (callRefusal L m t x)
-  where
-    answer : Option (ℕ × ℕ) → Outcome
-    answer none = read (reading L (tableDoc t x) 0)
-    answer (some r) = refused (r .0) (r .1)
+outcome L m t x = unless (callRefusal L m t x) (reading L (tableDoc t x) 0)
+
+-- what the places of a reading show in the text
+unfoldable pub shown : List ℕ → Reading Place → Reading (List ℕ)
+shown x r = mapReading (shows x) r

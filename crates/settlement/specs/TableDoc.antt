@@ -4,7 +4,7 @@ use mathlib.Core.List.{List}
 use mathlib.Core.Option.{Option, none, some}
 use Prim.Native.Nat.{ℕ, _+_, _-_, min}
 use lib.Dec.{eqb}
-use Rattle.text.specs.Span.{partOf}
+use lib.ListN.{take, drop}
 use Rattle.table.specs.Table.{cell, kids, attribute}
 use Rattle.report.specs.Rows.{Place}
 use Rattle.settlement.specs.Document.{Doc, maybe}
@@ -21,6 +21,10 @@ textAt t r = record { start = cell t r 4; len = cell t r 5 }
 unfoldable pub ownTextAt : List ℕ → ℕ → Option Place
 ownTextAt t r = cond (eqb (cell t r 5) 0) none (some (textAt t r))
 
+-- the bytes that a place of the text shows
+unfoldable pub shows : List ℕ → Place → List ℕ
+shows x p = take (p .len) (drop (p .start) x)
+
 -- the document of a table and its text
 unfoldable pub tableDoc : List ℕ → List ℕ → Doc ℕ Place
 tableDoc t x =
@@ -29,7 +33,7 @@ tableDoc t x =
       text = ownTextAt t;
       attr = λ r w. maybe none (λ a. some (textAt t a)) (attribute t x r w);
       kids = kids t;
-      bytes = λ p. partOf x (p .start) (p .len);
+      bytes = shows x;
       cut = λ p a n. record { start = p .start + a; len = min n (p .len - a) };
       empty = record { start = 0; len = 0 };
     }
