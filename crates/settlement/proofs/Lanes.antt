@@ -30,11 +30,11 @@ sameKind-no a b d = go (Kind-discrete a b)
 
 pub home-cases : (k : Kind) → (home k ≡ k) ⊎ (k ≡ logisticsCharge)
 unfolding home
-home-cases k = go (sameKind k logisticsCharge) refl
+home-cases k = go (sameKind k logisticsCharge) _ refl
   where
-    go : (t : Bool) → sameKind k logisticsCharge ≡ t → (cond t allowanceCharge k ≡ k) ⊎ (k ≡ logisticsCharge)
-    go true e = inr (sameKind-eq k logisticsCharge e)
-    go false e = inl refl
+    go : (t : Bool) (l : Kind) → sameKind k logisticsCharge ≡ t → (cond t l k ≡ k) ⊎ (k ≡ logisticsCharge)
+    go true l e = inr (sameKind-eq k logisticsCharge e)
+    go false l e = inl refl
 
 -- two kinds of one lane are one kind, or the two that document 01 leaves out
 pub record Charges (a b : Kind) : Type 0 where

@@ -14,7 +14,7 @@ use Rattle.report.proofs.Numbers.{parent-same}
 use Rattle.settlement.specs.Document.{Doc}
 use Rattle.settlement.specs.Kinds.{Kind, creditorReference, paymentReference, taxCurrency, invoiceCurrency, payee, paymentMeans, tradeTax, period, allowanceCharge, logisticsCharge, paymentTerms, summation, precedingInvoice, accounting, other, Kind-discrete, sameKind, home, meant, kinds, kindNamed}
 use Rattle.settlement.specs.Values.{Lent}
-use Rattle.settlement.specs.Settlement.{kindOf, unmappedOrder, reading}
+use Rattle.settlement.specs.Settlement.{kindOf, unmappedKey, unmappedOrder, reading}
 use Rattle.settlement.specs.Alike.{Alike}
 use Rattle.settlement.specs.Exchange.{Pair, LeftOut, Exchanged}
 use Rattle.settlement.proofs.Sorting.{Total}
@@ -116,24 +116,22 @@ turned h (inr p) = h (inl p)
 
 -- where texts stand for themselves, unmapped names are in a total order
 module _ {N : Type 0} (L : Lent) (D : Doc N (List ℕ)) (plain : (s : List ℕ) → D .bytes s ≡ s) where
+  key-same : (a b : Unmapped (List ℕ)) → unmappedKey L D a ≡ unmappedKey L D b → a ≡ b
+  unfolding unmappedKey
+  key-same a b e =
+      let p : a .parent ≡ b .parent = parent-same (a .parent) (b .parent) (cc) in
+      let h : D .bytes (a .name) ≡ D .bytes (b .name) = cc in
+      let n : a .name ≡ b .name = sym (plain (a .name)) ∙ h ∙ plain (b .name) in
+      λ i. record { parent = p i; name = n i }
+
   unmapped-total : Total (unmappedOrder L D)
   unfolding unmappedOrder
   unmapped-total =
       record {
-        turned = λ a b. order-turned (key a) (key b);
-        same = λ a b e. same a b (order-is (key a) (key b) e);
-        trans = λ a b c. order-trans (key a) (key b) (key c);
+        turned = λ a b. order-turned (unmappedKey L D a) (unmappedKey L D b);
+        same = λ a b e. key-same a b (order-is (unmappedKey L D a) (unmappedKey L D b) e);
+        trans = λ a b c. order-trans (unmappedKey L D a) (unmappedKey L D b) (unmappedKey L D c);
       }
-    where
-      key : Unmapped (List ℕ) → List ℕ
-      key a = parentNumber (a .parent) ∷ D .bytes (a .name)
-
-      same : (a b : Unmapped (List ℕ)) → parentNumber (a .parent) ∷ D .bytes (a .name) ≡ parentNumber (b .parent) ∷ D .bytes (b .name) → a ≡ b
-      same a b e =
-          let p : a .parent ≡ b .parent = parent-same (a .parent) (b .parent) (cc) in
-          let h : D .bytes (a .name) ≡ D .bytes (b .name) = cc in
-          let n : a .name ≡ b .name = sym (plain (a .name)) ∙ h ∙ plain (b .name) in
-          λ i. record { parent = p i; name = n i }
 
   -- two settlements that differ by an exchange have readings that differ in order alone
   pub exchanged : (n m : N) → Exchanged D n m → Alike (reading L D n) (reading L D m)

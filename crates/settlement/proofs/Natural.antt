@@ -21,7 +21,7 @@ use Rattle.settlement.specs.Tax.{TaxPaths, GroupTerms, pointDate, freshC
 use Rattle.settlement.specs.Payments.{Part, typeCode, information, financialCard, debtorAccount, creditorAccount, institution, unknown, Paying, partOf, notHeld, withMeans, firstMeans, accountOf, joined, lost, creditor, providerOf, part, paying, payingStart, paid, paymentMeansOf}
 use Rattle.settlement.specs.Summation.{Sum, required, allowanceTotal, chargeTotal, taxTotal, rounding, prepaid, unread, Summing, sumOf, isCurrency, withVat, taxIn, taxRead, taxAmount, taxTotalOf, summand, summing, summed, totals}
 use Rattle.settlement.specs.Walk.{said, placed, insert, insertAll}
-use Rattle.settlement.specs.Settlement.{Debit, identifierOf, payeeOf, quiet, periodOf, paymentTermsOf, precedingOf, own, kindOf, soFar, unseen, seen, act, step, saysOf, holdsOf, straysOf, besides, debited, debitOf, lateOf, termsOf, unmappedOrder, after, readingOf, reading}
+use Rattle.settlement.specs.Settlement.{Debit, identifierOf, payeeOf, quiet, periodOf, paymentTermsOf, precedingOf, own, kindOf, soFar, unseen, seen, act, step, saysOf, holdsOf, straysOf, besides, debited, debitOf, lateOf, termsOf, unmappedKey, unmappedOrder, after, readingOf, reading}
 use Rattle.settlement.specs.Kinds.{Kind, creditorReference, paymentReference, taxCurrency, invoiceCurrency, payee, paymentMeans, tradeTax, period, allowanceCharge, logisticsCharge, paymentTerms, summation, precedingInvoice, accounting, other, sameKind, home}
 use Rattle.settlement.specs.Shown.{mapIdentifier, mapPayee, mapPaymentTerms, mapOf, mapTerms, mapReading, mapMeans, mapPayment, mapVatState, mapState, mapAct, mapCurrencies}
 use Rattle.settlement.proofs.Maps.{cond-map, maybe-map, orElse-map, or-map, none-map, map-append, mapSays, mapBoth, both-0, both-1, both-pair, both-maybe, says-0, says-1, says-pair, says-maybe, says-cond, option-maybe, option-cond, entries-cond, entries-maybe, act-cond, unmapped-map, charge-map, provided-map, transfers-map, mapPaying, mapSumming, summing-cond}
@@ -502,7 +502,7 @@ module _ {N M X Y : Type 0} (L : Lent) (D : Doc N X) (E : Doc M Y) (h : N → M)
   termsOf-n s = simp (debitOf-n, none-map, reference-n)
 
   order-n : (a b : Unmapped X) → unmappedOrder L E (mapUnmapped v a) (mapUnmapped v b) ≡ unmappedOrder L D a b
-  unfolding unmappedOrder mapUnmapped
+  unfolding unmappedOrder unmappedKey mapUnmapped
   order-n a b = simp (H .bytes)
 
   said-blank : {A B : Type 0} (f : State X → N → List A) (g : State Y → M → List B) (m : A → B) → ((s : State X) (c : N) → g (mapState v s) (h c) ≡ map m (f s c)) → (cs : List N) → said (step L E) g (blank Y) (map h cs) ≡ map m (said (step L D) f (blank X) cs)

@@ -181,9 +181,13 @@ module _ {N X : Type 0} (L : Lent) (D : Doc N X) where
         totals = or noTotals (s summation);
       }
 
-  -- unmapped names ascend by parent, then by the bytes of the name
+  -- the parent's number, then the name's bytes
+  unfoldable pub unmappedKey : Unmapped X → List ℕ
+  unmappedKey a = parentNumber (a .parent) ∷ D .bytes (a .name)
+
+  -- unmapped names ascend by parent, then by name
   unfoldable pub unmappedOrder : Unmapped X → Unmapped X → Ordering
-  unmappedOrder a b = order (parentNumber (a .parent) ∷ D .bytes (a .name)) (parentNumber (b .parent) ∷ D .bytes (b .name))
+  unmappedOrder a b = order (unmappedKey a) (unmappedKey b)
 
   -- the state after the children
   unfoldable pub after : List N → State X
