@@ -7,3 +7,4 @@ pub mod Maps
 pub mod Natural
 pub mod Trees
 pub mod AnyOrder
+pub mod LastWins

@@ -8,7 +8,6 @@ use Prim.Native.String.{String}
 use Rattle.text.specs.Order.{equal}
 use Rattle.text.specs.Utf8.{bytes}
 use Rattle.text.proofs.Orders.{equal-is, order-is, order-turned, order-trans}
-use Rattle.report.specs.Parent.{parentNumber}
 use Rattle.report.specs.Rows.{Unmapped}
 use Rattle.report.proofs.Numbers.{parent-same}
 use Rattle.settlement.specs.Document.{Doc}
@@ -22,7 +21,7 @@ use Rattle.settlement.proofs.Lanes.{sameKind-eq, sameKind-no, home-case
 use Rattle.settlement.proofs.Exchange.{Lanes, NoCurrency, Free, exchange}
 
 -- the name of a kind
-abbrev kindName : Kind → String
+abbrev pub kindName : Kind → String
 kindName creditorReference = "CreditorReferenceID"
 kindName paymentReference = "PaymentReference"
 kindName taxCurrency = "TaxCurrencyCode"
@@ -62,7 +61,7 @@ module _ {N X : Type 0} (L : Lent) (D : Doc N X) where
   name n = D .bytes (D .name n)
 
   -- a kind that is read has its name
-  kind-name : (n : N) (k : Kind) → kindOf L D n ≡ k → k ≢ other → name n ≡ bytes (kindName k)
+  pub kind-name : (n : N) (k : Kind) → kindOf L D n ≡ k → k ≢ other → name n ≡ bytes (kindName k)
   unfolding kindOf kindNamed
   kind-name n k e d = go (meant-name kinds kinds-named (name n))
     where
@@ -70,7 +69,7 @@ module _ {N X : Type 0} (L : Lent) (D : Doc N X) where
       go (inl o) = absurd (d (sym e ∙ o))
       go (inr s) = s ∙ ap (λ (i : Kind). bytes (kindName i)) e
 
-  home-is : (k l : Kind) → home k ≡ l → l ≢ allowanceCharge → k ≡ l
+  pub home-is : (k l : Kind) → home k ≡ l → l ≢ allowanceCharge → k ≡ l
   unfolding home sameKind
   home-is k l e d = go (home-cases k)
     where

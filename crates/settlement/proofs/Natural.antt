@@ -15,7 +15,6 @@ use Rattle.report.specs.declared.path.Path.{Path}
 use Rattle.report.specs.declared.path.Path.the-variants as Path
 use Rattle.settlement.specs.Document.{Doc, maybe, or}
 use Rattle.settlement.specs.Shapes.{Means, unset, card, debit, transfers, Payment, VatState, Counts, Of, State, blank, Act, Currencies}
-use Rattle.settlement.specs.Values
 use Rattle.settlement.specs.Values.{Lent, Site, entry, trimIn, filled, textIn, ownText, first, kid, kidText, attribute, missing, answered, wrongCurrency, parsed, inCurrency, amountFrom, amountOf, amount, requiredAmount, requiredCode, percentOf, percent, notVat, dateAnswer, dateFrom, otherSpelling, dateIn, date}
 use Rattle.settlement.specs.Tax.{TaxPaths, GroupTerms, pointDate, freshCode, againCode, pointCode, tradeTaxOf, categoryIn, categoryOf, indicated, indicator, isCharge, allowanceChargeOf, counted, allowanceOrCharge, logisticsRead, logisticsLeft, logistics}
 use Rattle.settlement.specs.Payments.{Part, typeCode, information, financialCard, debtorAccount, creditorAccount, institution, unknown, Paying, partOf, notHeld, withMeans, firstMeans, accountOf, joined, lost, creditor, providerOf, part, paying, payingStart, paid, paymentMeansOf}

@@ -13,3 +13,4 @@ pub mod Outcome
 pub mod Tree
 pub mod Alike
 pub mod Exchange
+pub mod Last

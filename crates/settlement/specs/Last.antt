@@ -1,0 +1,13 @@
+-- The last child of a name, for the laws that say a reading without a state.
+use mathlib.Core.Bool.{cond}
+use mathlib.Core.List.{List, [], _∷_}
+use mathlib.Core.Option.{Option, none, some}
+use Prim.Native.String.{String}
+use Rattle.text.specs.Order.{equal}
+use Rattle.text.specs.Utf8.{bytes}
+use Rattle.settlement.specs.Document.{Doc, orElse}
+
+-- the last child of a name
+unfoldable pub lastNamed : {N X : Type 0} → Doc N X → String → List N → Option N
+lastNamed D w [] = none
+lastNamed D w (c ∷ cs) = orElse (lastNamed D w cs) (cond (equal (D .bytes (D .name c)) (bytes w)) (some c) none)
