@@ -8,3 +8,4 @@ pub mod Natural
 pub mod Trees
 pub mod AnyOrder
 pub mod LastWins
+pub mod Witness
