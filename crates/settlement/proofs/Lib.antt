@@ -9,3 +9,4 @@ pub mod Trees
 pub mod AnyOrder
 pub mod LastWins
 pub mod Witness
+pub mod Examples
