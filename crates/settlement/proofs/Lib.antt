@@ -10,3 +10,4 @@ pub mod AnyOrder
 pub mod LastWins
 pub mod Witness
 pub mod Examples
+pub mod UnmappedSet

@@ -14,3 +14,4 @@ pub mod Tree
 pub mod Alike
 pub mod Exchange
 pub mod Last
+pub mod Sorted
