@@ -8,11 +8,11 @@ use Rattle.text.specs.Order.{equal}
 use Rattle.text.specs.Utf8.{bytes, encode}
 use Rattle.text.proofs.Orders.{equal-is, equal-refl}
 use Rattle.settlement.specs.Document.{Doc, maybe, orElse, or}
-use Rattle.settlement.specs.Kinds.{Kind, paymentReference, taxCurrency, invoiceCurrency, payee, period, allowanceCharge, paymentTerms, accounting, other, sameKind, home, meant, kinds, kindNamed}
-use Rattle.settlement.specs.Shapes.{PaymentTerms, Of, State, blank, Currencies}
+use Rattle.settlement.specs.Kinds.{Kind, creditorReference, paymentReference, taxCurrency, invoiceCurrency, payee, period, allowanceCharge, paymentMeans, paymentTerms, accounting, other, sameKind, home, meant, kinds, kindNamed}
+use Rattle.settlement.specs.Shapes.{Means, unset, card, debit, transfers, PaymentTerms, Of, State, blank, Currencies}
 use Rattle.settlement.specs.Values.{Lent, ownText, textIn, kid, kidText}
-use Rattle.settlement.specs.Settlement.{payeeOf, quiet, periodOf, paymentTermsOf, own, kindOf, act, step, after, termsOf, readingOf}
-use Rattle.settlement.specs.Last.{lastNamed}
+use Rattle.settlement.specs.Settlement.{payeeOf, quiet, periodOf, paymentTermsOf, own, kindOf, act, step, besides, debited, debitOf, after, termsOf, readingOf}
+use Rattle.settlement.specs.Last.{lastNamed, ofDebit}
 use Rattle.settlement.proofs.Lanes.{sameKind-eq, sameKind-refl}
 use Rattle.settlement.proofs.Names.{kindName, kind-name, home-is}
 
@@ -58,6 +58,26 @@ module _ {N X : Type 0} (L : Lent) (D : Doc N X) where
         go none true e = e
         go none false e = e
         go (some n) b e = refl
+
+-- mandate and creditor identifier stand in a direct debit alone
+module _ {N X : Type 0} (L : Lent) (D : Doc N X) where
+  debited-mandate : (m : Means X) (a c : Option X) → debited L D m a c .mandate ≡ ofDebit (debited L D m a c .means) a
+  unfolding debited besides
+  debited-mandate unset none none = refl
+  debited-mandate unset none (some x) = refl
+  debited-mandate unset (some x) c = refl
+  debited-mandate (card x y) a c = refl
+  debited-mandate (debit x) a c = refl
+  debited-mandate transfers a c = refl
+
+  debited-creditor : (m : Means X) (a c : Option X) → debited L D m a c .creditor ≡ ofDebit (debited L D m a c .means) c
+  unfolding debited besides
+  debited-creditor unset none none = refl
+  debited-creditor unset none (some x) = refl
+  debited-creditor unset (some x) c = refl
+  debited-creditor (card x y) a c = refl
+  debited-creditor (debit x) a c = refl
+  debited-creditor transfers a c = refl
 
 through : {A B C : Type 0} (g : B → C) (b : B) (f : A → B) (o : Option A) → g (maybe b f o) ≡ maybe (g b) (λ a. g (f a)) o
 through g b f none = refl
@@ -116,3 +136,19 @@ module _ {N X : Type 0} (L : Lent) (D : Doc N X) (cs : List N) where
   pub bt9-last : readingOf L D cs .terms .bt9 ≡ maybe none (λ n. paymentTermsOf L D n .next .due) (lastNamed D "SpecifiedTradePaymentTerms" cs)
   unfolding readingOf termsOf
   bt9-last = ap (λ (p : PaymentTerms X). p .due) terms-last ∙ through (λ (p : PaymentTerms X). p .due) (blank X paymentTerms) (λ n. paymentTermsOf L D n .next) (lastNamed D "SpecifiedTradePaymentTerms" cs)
+
+  -- BT-89 is their mandate, where the means is a direct debit
+  pub bt89-last : readingOf L D cs .terms .bt89 ≡ ofDebit (readingOf L D cs .terms .means) (maybe none (λ n. kidText L D 0 n "DirectDebitMandateID") (lastNamed D "SpecifiedTradePaymentTerms" cs))
+  unfolding readingOf termsOf debitOf paymentTermsOf
+  bt89-last =
+      debited-mandate L D (after L D cs paymentMeans .means) (after L D cs paymentTerms .mandate) (after L D cs creditorReference)
+      ∙ ap (ofDebit (readingOf L D cs .terms .means))
+      (ap (λ (p : PaymentTerms X). p .mandate) terms-last ∙ through (λ (p : PaymentTerms X). p .mandate) (blank X paymentTerms) (λ n. paymentTermsOf L D n .next) (lastNamed D "SpecifiedTradePaymentTerms" cs))
+
+  -- BT-90 is the trimmed text of the last CreditorReferenceID, alike
+  pub bt90-last : readingOf L D cs .terms .bt90 ≡ ofDebit (readingOf L D cs .terms .means) (maybe none (λ n. textIn L D 0 n) (lastNamed D "CreditorReferenceID" cs))
+  unfolding readingOf termsOf debitOf after own quiet kindNamed meant kinds equal bytes encode home sameKind
+  bt90-last =
+      debited-creditor L D (after L D cs paymentMeans .means) (after L D cs paymentTerms .mandate) (after L D cs creditorReference)
+      ∙ ap (ofDebit (readingOf L D cs .terms .means))
+      (lane-last L D creditorReference (record { named = refl; home = refl; read = λ e. true≢false cc; alone = λ e. true≢false cc }) (λ n. textIn L D 0 n) (λ b s cur n. refl) (blank X) cs)

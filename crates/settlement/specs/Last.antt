@@ -1,4 +1,4 @@
--- The last child of a name, for the laws that say a reading without a state.
+-- The last child of a name and the terms of a direct debit, for the laws that say a reading without a state.
 use mathlib.Core.Bool.{cond}
 use mathlib.Core.List.{List, [], _∷_}
 use mathlib.Core.Option.{Option, none, some}
@@ -6,8 +6,16 @@ use Prim.Native.String.{String}
 use Rattle.text.specs.Order.{equal}
 use Rattle.text.specs.Utf8.{bytes}
 use Rattle.settlement.specs.Document.{Doc, orElse}
+use Rattle.settlement.specs.Shapes.{Means, unset, card, debit, transfers}
 
 -- the last child of a name
 unfoldable pub lastNamed : {N X : Type 0} → Doc N X → String → List N → Option N
 lastNamed D w [] = none
 lastNamed D w (c ∷ cs) = orElse (lastNamed D w cs) (cond (equal (D .bytes (D .name c)) (bytes w)) (some c) none)
+
+-- a term of the direct debit (BG-19), absent beside any other means
+abbrev pub ofDebit : {X : Type 0} → Means X → Option X → Option X
+ofDebit unset o = none
+ofDebit (card a b) o = none
+ofDebit (debit a) o = o
+ofDebit transfers o = none
