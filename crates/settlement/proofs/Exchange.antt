@@ -130,7 +130,7 @@ tagged-charge true a = refl
 tagged-charge false a = refl
 
 -- a lane makes no rows of another's kinds
-tagged-none : {X : Type 0} (j : ℕ) (l : Kind) (rs : List (Held X)) → Tagged l rs → rowLane j ≢ l → ofKind j rs ≡ []
+pub tagged-none : {X : Type 0} (j : ℕ) (l : Kind) (rs : List (Held X)) → Tagged l rs → rowLane j ≢ l → ofKind j rs ≡ []
 unfolding ofKind keep
 tagged-none j l [] t h = refl
 tagged-none {X} j l (r ∷ rs) t h = go (eqb (rowKind r) j) refl (tagged-none j l rs (t .1) h)
@@ -167,7 +167,7 @@ module _ {N X : Type 0} (L : Lent) (D : Doc N X) where
   own-rows accounting b s cur n = tt
   own-rows other b s cur n = tt
 
-  held-rows : (s : State X) (n : N) → Tagged (home (kindOf L D n)) (holdsOf L D s n)
+  pub held-rows : (s : State X) (n : N) → Tagged (home (kindOf L D n)) (holdsOf L D s n)
   unfolding holdsOf act
   held-rows s n = own-rows (home (kindOf L D n)) _ _ _ n
 

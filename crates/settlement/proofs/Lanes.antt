@@ -28,6 +28,12 @@ sameKind-no a b d = go (Kind-discrete a b)
     go (yes p) = absurd (d p)
     go (no p) = refl
 
+-- two tests that hold together are the same
+pub same-test : (a b : Bool) → (a ≡ true → b ≡ true) → (b ≡ true → a ≡ true) → a ≡ b
+same-test true b p q = sym (p refl)
+same-test false true p q = q refl
+same-test false false p q = refl
+
 pub home-cases : (k : Kind) → (home k ≡ k) ⊎ (k ≡ logisticsCharge)
 unfolding home
 home-cases k = go (sameKind k logisticsCharge) _ refl

@@ -6,15 +6,14 @@ use mathlib.Core.Logic.{_≢_}
 use mathlib.Core.Option.{Option, none, some}
 use Rattle.text.specs.Order.{equal}
 use Rattle.text.specs.Utf8.{bytes, encode}
-use Rattle.text.proofs.Orders.{equal-is, equal-refl}
 use Rattle.settlement.specs.Document.{Doc, maybe, orElse, or}
 use Rattle.settlement.specs.Kinds.{Kind, creditorReference, paymentReference, taxCurrency, invoiceCurrency, payee, period, allowanceCharge, paymentMeans, paymentTerms, accounting, other, sameKind, home, meant, kinds, kindNamed}
 use Rattle.settlement.specs.Shapes.{Means, unset, card, debit, transfers, PaymentTerms, Of, State, blank, Currencies}
 use Rattle.settlement.specs.Values.{Lent, ownText, textIn, kid, kidText}
 use Rattle.settlement.specs.Settlement.{payeeOf, quiet, periodOf, paymentTermsOf, own, kindOf, act, step, besides, debited, debitOf, after, termsOf, readingOf}
-use Rattle.settlement.specs.Last.{lastNamed, ofDebit}
-use Rattle.settlement.proofs.Lanes.{sameKind-eq, sameKind-refl}
-use Rattle.settlement.proofs.Names.{kindName, kind-name, home-is}
+use Rattle.settlement.specs.Last.{isNamed, lastNamed, ofDebit}
+use Rattle.settlement.proofs.Lanes.{sameKind-eq, sameKind-refl, same-test}
+use Rattle.settlement.proofs.Names.{kindName, kind-test, home-is}
 
 module _ {N X : Type 0} (L : Lent) (D : Doc N X) where
   -- a lane of its own: its children are those of its name
@@ -24,35 +23,23 @@ module _ {N X : Type 0} (L : Lent) (D : Doc N X) where
     pub read : l ≢ other
     pub alone : l ≢ allowanceCharge
 
-  at-home : (l : Kind) → Own l → (n : N) → sameKind l (home (kindOf L D n)) ≡ equal (D .bytes (D .name n)) (bytes (kindName l))
-  at-home l o n = go (sameKind l (home (kindOf L D n))) (equal (D .bytes (D .name n)) (bytes (kindName l))) refl refl
-    where
-      there : sameKind l (home (kindOf L D n)) ≡ true → equal (D .bytes (D .name n)) (bytes (kindName l)) ≡ true
-      there e =
-          let k : kindOf L D n ≡ l = home-is L D (kindOf L D n) l (sym (sameKind-eq l (home (kindOf L D n)) e)) (o .alone) in
-          rw (kind-name L D n l k (o .read)) (equal-refl (bytes (kindName l)))
-
-      back : equal (D .bytes (D .name n)) (bytes (kindName l)) ≡ true → sameKind l (home (kindOf L D n)) ≡ true
-      back e =
-          let k : kindOf L D n ≡ l = unfold kindOf in (ap kindNamed (equal-is (D .bytes (D .name n)) (bytes (kindName l)) e) ∙ o .named) in
-          rw (k, o .home) (sameKind-refl l)
-
-      go : (a b : Bool) → sameKind l (home (kindOf L D n)) ≡ a → equal (D .bytes (D .name n)) (bytes (kindName l)) ≡ b → a ≡ b
-      go true true p q = refl
-      go true false p q = sym (there p) ∙ q
-      go false true p q = sym p ∙ back q
-      go false false p q = refl
+  at-home : (l : Kind) → Own l → (n : N) → sameKind l (home (kindOf L D n)) ≡ isNamed D (kindName l) n
+  at-home l o n =
+      same-test (sameKind l (home (kindOf L D n))) (sameKind (kindOf L D n) l)
+      (λ h. rw (home-is L D (kindOf L D n) l (sym (sameKind-eq l (home (kindOf L D n)) h)) (o .alone)) (sameKind-refl l))
+      (λ h. rw (sameKind-eq (kindOf L D n) l h, o .home) (sameKind-refl l))
+      ∙ kind-test L D l (o .named) (o .read) n
 
   -- a lane that forgets what it held has what its last child makes
   module _ (l : Kind) (o : Own l) (f : N → Of X l) (forgets : (b : Bool) (s : Of X l) (cur : Currencies X) (n : N) → own L D l b s cur n .next ≡ f n) where
-    one : (s : State X) (n : N) → step L D s n l ≡ cond (equal (D .bytes (D .name n)) (bytes (kindName l))) (f n) (s l)
+    one : (s : State X) (n : N) → step L D s n l ≡ cond (isNamed D (kindName l) n) (f n) (s l)
     unfolding step act
     one s n = rw (at-home l o n, forgets _ (s l) _ n)
 
     lane-last : (s : State X) (cs : List N) → foldl (step L D) s cs l ≡ maybe (s l) f (lastNamed D (kindName l) cs)
     unfolding lastNamed
     lane-last s [] = refl
-    lane-last s (c ∷ cs) = lane-last (step L D s c) cs ∙ go (lastNamed D (kindName l) cs) (equal (D .bytes (D .name c)) (bytes (kindName l))) (one s c)
+    lane-last s (c ∷ cs) = lane-last (step L D s c) cs ∙ go (lastNamed D (kindName l) cs) (isNamed D (kindName l) c) (one s c)
       where
         go : (r : Option N) (b : Bool) {a : Of X l} → a ≡ cond b (f c) (s l) → maybe a f r ≡ maybe (s l) f (orElse r (cond b (some c) none))
         go none true e = e

@@ -11,3 +11,5 @@ pub mod LastWins
 pub mod Witness
 pub mod Examples
 pub mod UnmappedSet
+pub mod PlainValues
+pub mod HeldRows

@@ -7,7 +7,7 @@ use Prim.Native.Nat.{ℕ}
 use Prim.Native.String.{String}
 use Rattle.text.specs.Order.{equal}
 use Rattle.text.specs.Utf8.{bytes}
-use Rattle.text.proofs.Orders.{equal-is, order-is, order-turned, order-trans}
+use Rattle.text.proofs.Orders.{equal-is, equal-refl, order-is, order-turned, order-trans}
 use Rattle.report.specs.Rows.{Unmapped}
 use Rattle.report.proofs.Numbers.{parent-same}
 use Rattle.settlement.specs.Document.{Doc}
@@ -15,9 +15,10 @@ use Rattle.settlement.specs.Kinds.{Kind, creditorReference, paymentRefer
 use Rattle.settlement.specs.Values.{Lent}
 use Rattle.settlement.specs.Settlement.{kindOf, unmappedKey, unmappedOrder, reading}
 use Rattle.settlement.specs.Alike.{Alike}
+use Rattle.settlement.specs.Last.{isNamed}
 use Rattle.settlement.specs.Exchange.{Pair, LeftOut, Exchanged}
 use Rattle.settlement.proofs.Sorting.{Total}
-use Rattle.settlement.proofs.Lanes.{sameKind-eq, sameKind-no, home-cases, Charges, home-same}
+use Rattle.settlement.proofs.Lanes.{sameKind-eq, sameKind-refl, sameKind-no, same-test, home-cases, Charges, home-same}
 use Rattle.settlement.proofs.Exchange.{Lanes, NoCurrency, Free, exchange}
 
 -- the name of a kind
@@ -68,6 +69,14 @@ module _ {N X : Type 0} (L : Lent) (D : Doc N X) where
       go : (meant other kinds (name n) ≡ other) ⊎ (name n ≡ bytes (kindName (meant other kinds (name n)))) → name n ≡ bytes (kindName k)
       go (inl o) = absurd (d (sym e ∙ o))
       go (inr s) = s ∙ ap (λ (i : Kind). bytes (kindName i)) e
+
+  -- a child is of a kind that is read just where it has its name
+  pub kind-test : (k : Kind) → kindNamed (bytes (kindName k)) ≡ k → k ≢ other → (n : N) → sameKind (kindOf L D n) k ≡ isNamed D (kindName k) n
+  unfolding isNamed kindOf
+  kind-test k e d n =
+      same-test (sameKind (kindOf L D n) k) (isNamed D (kindName k) n)
+      (λ h. rw (kind-name n k (sameKind-eq (kindOf L D n) k h) d) (equal-refl (bytes (kindName k))))
+      (λ h. rw (equal-is (name n) (bytes (kindName k)) h, e) (sameKind-refl k))
 
   pub home-is : (k l : Kind) → home k ≡ l → l ≢ allowanceCharge → k ≡ l
   unfolding home sameKind

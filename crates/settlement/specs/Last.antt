@@ -1,5 +1,5 @@
--- The last child of a name and the terms of a direct debit, for the laws that say a reading without a state.
-use mathlib.Core.Bool.{cond}
+-- Children by name, the last of them, and the terms of a direct debit, for the laws that say a reading without a state.
+use mathlib.Core.Bool.{Bool, cond}
 use mathlib.Core.List.{List, [], _∷_}
 use mathlib.Core.Option.{Option, none, some}
 use Prim.Native.String.{String}
@@ -8,10 +8,14 @@ use Rattle.text.specs.Utf8.{bytes}
 use Rattle.settlement.specs.Document.{Doc, orElse}
 use Rattle.settlement.specs.Shapes.{Means, unset, card, debit, transfers}
 
+-- whether an element has a name
+unfoldable pub isNamed : {N X : Type 0} → Doc N X → String → N → Bool
+isNamed D w n = equal (D .bytes (D .name n)) (bytes w)
+
 -- the last child of a name
 unfoldable pub lastNamed : {N X : Type 0} → Doc N X → String → List N → Option N
 lastNamed D w [] = none
-lastNamed D w (c ∷ cs) = orElse (lastNamed D w cs) (cond (equal (D .bytes (D .name c)) (bytes w)) (some c) none)
+lastNamed D w (c ∷ cs) = orElse (lastNamed D w cs) (cond (isNamed D w c) (some c) none)
 
 -- a term of the direct debit (BG-19), absent beside any other means
 abbrev pub ofDebit : {X : Type 0} → Means X → Option X → Option X
