@@ -43,11 +43,11 @@ module _ {N X : Type 0} (L : Lent) (D : Doc N X) where
     pub money : sameKind (kindOf L D x) summation ≡ true → NoCurrency y
 
   -- a child leaves every other lane alone
-  frame : (l : Kind) (s : State X) (n : N) → sameKind l (home (kindOf L D n)) ≡ false → step L D s n l ≡ s l
+  pub frame : (l : Kind) (s : State X) (n : N) → sameKind l (home (kindOf L D n)) ≡ false → step L D s n l ≡ s l
   unfolding step
   frame l s n e = rw e
 
-  own-lane : (l : Kind) (s : State X) (n : N) → sameKind l (home (kindOf L D n)) ≡ true → step L D s n l ≡ act L D l s n .next
+  pub own-lane : (l : Kind) (s : State X) (n : N) → sameKind l (home (kindOf L D n)) ≡ true → step L D s n l ≡ act L D l s n .next
   unfolding step
   own-lane l s n e = rw e
 

@@ -9,7 +9,7 @@ use Rattle.text.specs.Utf8.{bytes, encode}
 use Rattle.codes.specs.Conformant.{conformant}
 use Rattle.report.specs.Rows.{Held, vat, allowance, charge, preceding}
 use Rattle.settlement.specs.Document.{Doc}
-use Rattle.settlement.specs.Kinds.{Kind, tradeTax, allowanceCharge, logisticsCharge, precedingInvoice, other, sameKind, home, meant, kinds, kindNamed}
+use Rattle.settlement.specs.Kinds.{Kind, tradeTax, allowanceCharge, logisticsCharge, precedingInvoice, sameKind, home, meant, kinds, kindNamed}
 use Rattle.settlement.specs.Shapes.{VatState, Counts, State, blank}
 use Rattle.settlement.specs.Values.{Lent}
 use Rattle.settlement.specs.Tax.{tradeTaxOf, isCharge, allowanceChargeOf, allowanceOrCharge, logisticsRead, logisticsLeft, logistics}
@@ -21,7 +21,7 @@ use Rattle.settlement.specs.ChildRows.{vatRow, precedingRow, allowanceCh
 use Rattle.settlement.proofs.Walks.{keep-append}
 use Rattle.settlement.proofs.Lanes.{sameKind-eq, sameKind-refl, home-cases}
 use Rattle.settlement.proofs.Exchange.{rowLane, tagged-none, held-rows}
-use Rattle.settlement.proofs.Names.{kindName, kind-test, home-is}
+use Rattle.settlement.proofs.Names.{kindName, Own, kind-test, home-is, at-home}
 use Rattle.settlement.proofs.PlainValues.{amount-is, required-is, code-is, percent-is, date-is, category-is}
 
 module _ {N X : Type 0} (L : Lent) (D : Doc N X) where
@@ -36,24 +36,24 @@ module _ {N X : Type 0} (L : Lent) (D : Doc N X) where
       go false = refl
 
   -- the rows of a child of a kind
-  holds-as : (s : State X) (n : N) (k : Kind) → kindOf L D n ≡ k → holdsOf L D s n ≡ own L D (home k) (sameKind k logisticsCharge) (s (home k)) (seen L D k s) n .holds
+  pub holds-as : (s : State X) (n : N) (k : Kind) → kindOf L D n ≡ k → holdsOf L D s n ≡ own L D (home k) (sameKind k logisticsCharge) (s (home k)) (seen L D k s) n .holds
   unfolding holdsOf act
   holds-as s n k e = ap (λ (i : Kind). own L D (home i) (sameKind i logisticsCharge) (s (home i)) (seen L D i s) n .holds) e
 
   -- a child of another lane makes none
-  holds-none : (j : ℕ) (s : State X) (n : N) → rowLane j ≢ home (kindOf L D n) → ofKind j (holdsOf L D s n) ≡ []
+  pub holds-none : (j : ℕ) (s : State X) (n : N) → rowLane j ≢ home (kindOf L D n) → ofKind j (holdsOf L D s n) ≡ []
   holds-none j s n h = tagged-none j (home (kindOf L D n)) (holdsOf L D s n) (held-rows L D s n) h
 
   -- a kind with a lane of its own: each child of its name makes its row, and no other does
-  rows-named : (j : ℕ) (k : Kind) (r : N → Held X) → rowLane j ≡ k → k ≢ allowanceCharge → k ≢ other → kindNamed (bytes (kindName k)) ≡ k →
+  rows-named : (j : ℕ) (k : Kind) (r : N → Held X) → rowLane j ≡ k → Own k →
       ((s : State X) (n : N) → ofKind j (own L D (home k) (sameKind k logisticsCharge) (s (home k)) (seen L D k s) n .holds) ≡ r n ∷ []) →
       (cs : List N) → ofKind j (readingOf L D cs .held) ≡ map r (keep (isNamed D (kindName k)) cs)
   unfolding readingOf
-  rows-named j k r lane alone read named one cs = rows-of j (isNamed D (kindName k)) r (λ s n. rw (← (kind-test L D k named read n)) (go s n (sameKind (kindOf L D n) k) refl)) (blank X) cs
+  rows-named j k r lane o one cs = rows-of j (isNamed D (kindName k)) r (λ s n. rw (← (at-home L D k o n)) (go s n (sameKind k (home (kindOf L D n))) refl)) (blank X) cs
     where
-      go : (s : State X) (n : N) (b : Bool) → sameKind (kindOf L D n) k ≡ b → ofKind j (holdsOf L D s n) ≡ cond b (r n ∷ []) []
-      go s n true e = ap (ofKind j) (holds-as s n k (sameKind-eq (kindOf L D n) k e)) ∙ one s n
-      go s n false e = holds-none j s n (λ p. true≢false (sym (ap (λ (i : Kind). sameKind i k) (home-is L D (kindOf L D n) k (sym p ∙ lane) alone) ∙ sameKind-refl k) ∙ e))
+      go : (s : State X) (n : N) (b : Bool) → sameKind k (home (kindOf L D n)) ≡ b → ofKind j (holdsOf L D s n) ≡ cond b (r n ∷ []) []
+      go s n true e = ap (ofKind j) (holds-as s n k (home-is L D (kindOf L D n) k (sym (sameKind-eq k (home (kindOf L D n)) e)) (o .alone))) ∙ one s n
+      go s n false e = holds-none j s n (λ p. true≢false (sym (sameKind-refl k) ∙ ap (sameKind k) (sym lane ∙ p) ∙ e))
 
   -- the row of one child, whatever the state is
   vat-one : (s : VatState X) (n : N) → tradeTaxOf L D s n .holds ≡ vat (vatRow L D n) ∷ []
@@ -132,12 +132,12 @@ module _ {N X : Type 0} (L : Lent) (D : Doc N X) (cs : List N) where
   -- there is one VAT row for each ApplicableTradeTax, in order
   pub vat-rows : ofKind 2 (readingOf L D cs .held) ≡ map (λ n. vat (vatRow L D n)) (keep (isNamed D "ApplicableTradeTax") cs)
   unfolding rowLane own home sameKind kindNamed meant kinds equal bytes encode ofKind keep
-  vat-rows = rows-named L D 2 tradeTax (λ n. vat (vatRow L D n)) refl (λ e. true≢false cc) (λ e. true≢false cc) refl (λ s n. ap (ofKind 2) (vat-one L D (s tradeTax) n)) cs
+  vat-rows = rows-named L D 2 tradeTax (λ n. vat (vatRow L D n)) refl (record { named = refl; home = refl; read = λ e. true≢false cc; alone = λ e. true≢false cc }) (λ s n. ap (ofKind 2) (vat-one L D (s tradeTax) n)) cs
 
   -- and one preceding invoice for each InvoiceReferencedDocument
   pub preceding-rows : ofKind 5 (readingOf L D cs .held) ≡ map (λ n. preceding (precedingRow L D n)) (keep (isNamed D "InvoiceReferencedDocument") cs)
   unfolding rowLane own home sameKind kindNamed meant kinds equal bytes encode ofKind keep
-  preceding-rows = rows-named L D 5 precedingInvoice (λ n. preceding (precedingRow L D n)) refl (λ e. true≢false cc) (λ e. true≢false cc) refl (λ s n. ap (ofKind 5) (preceding-one L D (s precedingInvoice) n)) cs
+  preceding-rows = rows-named L D 5 precedingInvoice (λ n. preceding (precedingRow L D n)) refl (record { named = refl; home = refl; read = λ e. true≢false cc; alone = λ e. true≢false cc }) (λ s n. ap (ofKind 5) (preceding-one L D (s precedingInvoice) n)) cs
 
   -- an allowance for each SpecifiedTradeAllowanceCharge whose indicator does not say charge
   pub allowance-rows : ofKind 3 (readingOf L D cs .held) ≡ map (λ n. allowance (allowanceChargeRow L D n)) (keep (makesAllowance L D) cs)

@@ -4,11 +4,11 @@ use mathlib.Core.Bool.{Bool, true, false, cond, false≢true}
 use mathlib.Core.Logic.{_⊎_, inl, inr, _≢_}
 use Rattle.settlement.specs.Kinds.{Kind, allowanceCharge, logisticsCharge, Kind-discrete, isYes, sameKind, home}
 
-isYes-true : {A : Type 0} (d : Dec A) → isYes d ≡ true → A
+pub isYes-true : {A : Type 0} (d : Dec A) → isYes d ≡ true → A
 isYes-true (yes a) e = a
 isYes-true (no a) e = absurd (false≢true e)
 
-isYes-here : {A : Type 0} (d : Dec A) → A → isYes d ≡ true
+pub isYes-here : {A : Type 0} (d : Dec A) → A → isYes d ≡ true
 isYes-here (yes a) e = refl
 isYes-here (no a) e = absurd (a e)
 

@@ -1,40 +1,24 @@
 -- The terms of which the last child of a name decides (document 01, `read.rs`: the last wins, even blank).
-use mathlib.Core.Path.{_≡_, refl, sym, ap, _∙_}
+use mathlib.Core.Path.{_≡_, refl, ap, _∙_}
 use mathlib.Core.Bool.{Bool, true, false, cond, true≢false}
 use mathlib.Core.List.{List, [], _∷_, foldl}
-use mathlib.Core.Logic.{_≢_}
 use mathlib.Core.Option.{Option, none, some}
 use Rattle.text.specs.Order.{equal}
 use Rattle.text.specs.Utf8.{bytes, encode}
 use Rattle.settlement.specs.Document.{Doc, maybe, orElse, or}
-use Rattle.settlement.specs.Kinds.{Kind, creditorReference, paymentReference, taxCurrency, invoiceCurrency, payee, period, allowanceCharge, paymentMeans, paymentTerms, accounting, other, sameKind, home, meant, kinds, kindNamed}
+use Rattle.settlement.specs.Kinds.{Kind, creditorReference, paymentReference, taxCurrency, invoiceCurrency, payee, period, paymentMeans, paymentTerms, accounting, sameKind, home, meant, kinds, kindNamed}
 use Rattle.settlement.specs.Shapes.{Means, unset, card, debit, transfers, PaymentTerms, Of, State, blank, Currencies}
 use Rattle.settlement.specs.Values.{Lent, ownText, textIn, kid, kidText}
-use Rattle.settlement.specs.Settlement.{payeeOf, quiet, periodOf, paymentTermsOf, own, kindOf, act, step, besides, debited, debitOf, after, termsOf, readingOf}
+use Rattle.settlement.specs.Settlement.{payeeOf, quiet, periodOf, paymentTermsOf, own, act, step, besides, debited, debitOf, after, termsOf, readingOf}
 use Rattle.settlement.specs.Last.{isNamed, lastNamed, ofDebit}
-use Rattle.settlement.proofs.Lanes.{sameKind-eq, sameKind-refl, same-test}
-use Rattle.settlement.proofs.Names.{kindName, kind-test, home-is}
+use Rattle.settlement.proofs.Names.{kindName, Own, at-home}
 
 module _ {N X : Type 0} (L : Lent) (D : Doc N X) where
-  -- a lane of its own: its children are those of its name
-  record Own (l : Kind) : Type 0 where
-    pub named : kindNamed (bytes (kindName l)) ≡ l
-    pub home : home l ≡ l
-    pub read : l ≢ other
-    pub alone : l ≢ allowanceCharge
-
-  at-home : (l : Kind) → Own l → (n : N) → sameKind l (home (kindOf L D n)) ≡ isNamed D (kindName l) n
-  at-home l o n =
-      same-test (sameKind l (home (kindOf L D n))) (sameKind (kindOf L D n) l)
-      (λ h. rw (home-is L D (kindOf L D n) l (sym (sameKind-eq l (home (kindOf L D n)) h)) (o .alone)) (sameKind-refl l))
-      (λ h. rw (sameKind-eq (kindOf L D n) l h, o .home) (sameKind-refl l))
-      ∙ kind-test L D l (o .named) (o .read) n
-
   -- a lane that forgets what it held has what its last child makes
   module _ (l : Kind) (o : Own l) (f : N → Of X l) (forgets : (b : Bool) (s : Of X l) (cur : Currencies X) (n : N) → own L D l b s cur n .next ≡ f n) where
     one : (s : State X) (n : N) → step L D s n l ≡ cond (isNamed D (kindName l) n) (f n) (s l)
     unfolding step act
-    one s n = rw (at-home l o n, forgets _ (s l) _ n)
+    one s n = rw (at-home L D l o n, forgets _ (s l) _ n)
 
     lane-last : (s : State X) (cs : List N) → foldl (step L D) s cs l ≡ maybe (s l) f (lastNamed D (kindName l) cs)
     unfolding lastNamed
@@ -124,18 +108,23 @@ module _ {N X : Type 0} (L : Lent) (D : Doc N X) (cs : List N) where
   unfolding readingOf termsOf
   bt9-last = ap (λ (p : PaymentTerms X). p .due) terms-last ∙ through (λ (p : PaymentTerms X). p .due) (blank X paymentTerms) (λ n. paymentTermsOf L D n .next) (lastNamed D "SpecifiedTradePaymentTerms" cs)
 
+  -- their mandate
+  pub mandate-last : after L D cs paymentTerms .mandate ≡ maybe none (λ n. kidText L D 0 n "DirectDebitMandateID") (lastNamed D "SpecifiedTradePaymentTerms" cs)
+  unfolding paymentTermsOf
+  mandate-last = ap (λ (p : PaymentTerms X). p .mandate) terms-last ∙ through (λ (p : PaymentTerms X). p .mandate) (blank X paymentTerms) (λ n. paymentTermsOf L D n .next) (lastNamed D "SpecifiedTradePaymentTerms" cs)
+
+  -- the last creditor identifier
+  pub creditor-last : after L D cs creditorReference ≡ maybe none (λ n. textIn L D 0 n) (lastNamed D "CreditorReferenceID" cs)
+  unfolding after own quiet kindNamed meant kinds equal bytes encode home sameKind
+  creditor-last =
+      lane-last L D creditorReference (record { named = refl; home = refl; read = λ e. true≢false cc; alone = λ e. true≢false cc }) (λ n. textIn L D 0 n) (λ b s cur n. refl) (blank X) cs
+
   -- BT-89 is their mandate, where the means is a direct debit
   pub bt89-last : readingOf L D cs .terms .bt89 ≡ ofDebit (readingOf L D cs .terms .means) (maybe none (λ n. kidText L D 0 n "DirectDebitMandateID") (lastNamed D "SpecifiedTradePaymentTerms" cs))
-  unfolding readingOf termsOf debitOf paymentTermsOf
-  bt89-last =
-      debited-mandate L D (after L D cs paymentMeans .means) (after L D cs paymentTerms .mandate) (after L D cs creditorReference)
-      ∙ ap (ofDebit (readingOf L D cs .terms .means))
-      (ap (λ (p : PaymentTerms X). p .mandate) terms-last ∙ through (λ (p : PaymentTerms X). p .mandate) (blank X paymentTerms) (λ n. paymentTermsOf L D n .next) (lastNamed D "SpecifiedTradePaymentTerms" cs))
+  unfolding readingOf termsOf debitOf
+  bt89-last = debited-mandate L D (after L D cs paymentMeans .means) (after L D cs paymentTerms .mandate) (after L D cs creditorReference) ∙ ap (ofDebit (readingOf L D cs .terms .means)) mandate-last
 
   -- BT-90 is the trimmed text of the last CreditorReferenceID, alike
   pub bt90-last : readingOf L D cs .terms .bt90 ≡ ofDebit (readingOf L D cs .terms .means) (maybe none (λ n. textIn L D 0 n) (lastNamed D "CreditorReferenceID" cs))
-  unfolding readingOf termsOf debitOf after own quiet kindNamed meant kinds equal bytes encode home sameKind
-  bt90-last =
-      debited-creditor L D (after L D cs paymentMeans .means) (after L D cs paymentTerms .mandate) (after L D cs creditorReference)
-      ∙ ap (ofDebit (readingOf L D cs .terms .means))
-      (lane-last L D creditorReference (record { named = refl; home = refl; read = λ e. true≢false cc; alone = λ e. true≢false cc }) (λ n. textIn L D 0 n) (λ b s cur n. refl) (blank X) cs)
+  unfolding readingOf termsOf debitOf
+  bt90-last = debited-creditor L D (after L D cs paymentMeans .means) (after L D cs paymentTerms .mandate) (after L D cs creditorReference) ∙ ap (ofDebit (readingOf L D cs .terms .means)) creditor-last

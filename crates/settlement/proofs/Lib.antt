@@ -13,3 +13,5 @@ pub mod Examples
 pub mod UnmappedSet
 pub mod PlainValues
 pub mod HeldRows
+pub mod PaymentParts
+pub mod Transfers

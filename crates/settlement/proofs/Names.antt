@@ -11,14 +11,14 @@ use Rattle.text.proofs.Orders.{equal-is, equal-refl, order-is, order-turned, or
 use Rattle.report.specs.Rows.{Unmapped}
 use Rattle.report.proofs.Numbers.{parent-same}
 use Rattle.settlement.specs.Document.{Doc}
-use Rattle.settlement.specs.Kinds.{Kind, creditorReference, paymentReference, taxCurrency, invoiceCurrency, payee, paymentMeans, tradeTax, period, allowanceCharge, logisticsCharge, paymentTerms, summation, precedingInvoice, accounting, other, Kind-discrete, sameKind, home, meant, kinds, kindNamed}
+use Rattle.settlement.specs.Kinds.{Kind, creditorReference, paymentReference, taxCurrency, invoiceCurrency, payee, paymentMeans, tradeTax, period, allowanceCharge, logisticsCharge, paymentTerms, summation, precedingInvoice, accounting, other, Kind-discrete, isYes, sameKind, home, meant, kinds, kindNamed}
 use Rattle.settlement.specs.Values.{Lent}
 use Rattle.settlement.specs.Settlement.{kindOf, unmappedKey, unmappedOrder, reading}
 use Rattle.settlement.specs.Alike.{Alike}
 use Rattle.settlement.specs.Last.{isNamed}
 use Rattle.settlement.specs.Exchange.{Pair, LeftOut, Exchanged}
 use Rattle.settlement.proofs.Sorting.{Total}
-use Rattle.settlement.proofs.Lanes.{sameKind-eq, sameKind-refl, sameKind-no, same-test, home-cases, Charges, home-same}
+use Rattle.settlement.proofs.Lanes.{isYes-true, isYes-here, sameKind-eq, sameKind-refl, sameKind-no, same-test, home-cases, Charges, home-same}
 use Rattle.settlement.proofs.Exchange.{Lanes, NoCurrency, Free, exchange}
 
 -- the name of a kind
@@ -39,23 +39,46 @@ kindName precedingInvoice = "InvoiceReferencedDocument"
 kindName accounting = "ReceivableSpecifiedTradeAccountingAccount"
 kindName other = ""
 
--- a list that has each kind under its name
-abbrev Named : List (String × Kind) → Type 0
-Named [] = Unit {0}
-Named (c ∷ cs) = (c .0 ≡ kindName (c .1)) × Named cs
+-- names and what they mean in a list, a where it has none
+module _ {A : Type 0} (a : A) (nameOf : A → String) where
+  -- a list that has each under its name
+  abbrev pub Named : List (String × A) → Type 0
+  Named [] = Unit {0}
+  Named (c ∷ cs) = (c .0 ≡ nameOf (c .1)) × Named cs
 
-kinds-named : Named kinds
+  pub meant-name : (cs : List (String × A)) → Named cs → (s : List ℕ) → (meant a cs s ≡ a) ⊎ (s ≡ bytes (nameOf (meant a cs s)))
+  unfolding meant
+  meant-name [] h s = inl refl
+  meant-name (c ∷ cs) h s = go (equal s (bytes (c .0))) refl (meant-name cs (h .1) s)
+    where
+      go : (b : Bool) → equal s (bytes (c .0)) ≡ b → (meant a cs s ≡ a) ⊎ (s ≡ bytes (nameOf (meant a cs s))) → (cond b (c .1) (meant a cs s) ≡ a) ⊎ (s ≡ bytes (nameOf (cond b (c .1) (meant a cs s))))
+      go true e i = inr (equal-is s (bytes (c .0)) e ∙ ap bytes (h .0))
+      go false e i = i
+
+  -- a text means k just where it is its name
+  pub meant-test : (same : (b c : A) → Dec (b ≡ c)) (cs : List (String × A)) → Named cs → (k : A) → meant a cs (bytes (nameOf k)) ≡ k → k ≢ a → (s : List ℕ) → isYes (same (meant a cs s) k) ≡ equal s (bytes (nameOf k))
+  meant-test same cs h k e d s = same-test (isYes (same (meant a cs s) k)) (equal s (bytes (nameOf k))) there back
+    where
+      there : isYes (same (meant a cs s) k) ≡ true → equal s (bytes (nameOf k)) ≡ true
+      there i = go (meant-name cs h s) (isYes-true (same (meant a cs s) k) i)
+        where
+          go : (meant a cs s ≡ a) ⊎ (s ≡ bytes (nameOf (meant a cs s))) → meant a cs s ≡ k → equal s (bytes (nameOf k)) ≡ true
+          go (inl o) m = absurd (d (sym m ∙ o))
+          go (inr o) m = ap (λ (t : List ℕ). equal t (bytes (nameOf k))) (o ∙ ap (λ (i : A). bytes (nameOf i)) m) ∙ equal-refl (bytes (nameOf k))
+
+      back : equal s (bytes (nameOf k)) ≡ true → isYes (same (meant a cs s) k) ≡ true
+      back i = isYes-here (same (meant a cs s) k) (ap (meant a cs) (equal-is s (bytes (nameOf k)) i) ∙ e)
+
+kinds-named : Named other kindName kinds
 unfolding kinds
 kinds-named = (refl, (refl, (refl, (refl, (refl, (refl, (refl, (refl, (refl, (refl, (refl, (refl, (refl, (refl, tt))))))))))))))
 
-meant-name : (cs : List (String × Kind)) → Named cs → (s : List ℕ) → (meant other cs s ≡ other) ⊎ (s ≡ bytes (kindName (meant other cs s)))
-unfolding meant
-meant-name [] h s = inl refl
-meant-name (c ∷ cs) h s = go (equal s (bytes (c .0))) refl (meant-name cs (h .1) s)
-  where
-    go : (b : Bool) → equal s (bytes (c .0)) ≡ b → (meant other cs s ≡ other) ⊎ (s ≡ bytes (kindName (meant other cs s))) → (cond b (c .1) (meant other cs s) ≡ other) ⊎ (s ≡ bytes (kindName (cond b (c .1) (meant other cs s))))
-    go true e i = inr (equal-is s (bytes (c .0)) e ∙ ap bytes (h .0))
-    go false e i = i
+-- a lane of its own: its children are those of its name
+pub record Own (l : Kind) : Type 0 where
+  pub named : kindNamed (bytes (kindName l)) ≡ l
+  pub home : home l ≡ l
+  pub read : l ≢ other
+  pub alone : l ≢ allowanceCharge
 
 module _ {N X : Type 0} (L : Lent) (D : Doc N X) where
   abbrev name : N → List ℕ
@@ -64,7 +87,7 @@ module _ {N X : Type 0} (L : Lent) (D : Doc N X) where
   -- a kind that is read has its name
   pub kind-name : (n : N) (k : Kind) → kindOf L D n ≡ k → k ≢ other → name n ≡ bytes (kindName k)
   unfolding kindOf kindNamed
-  kind-name n k e d = go (meant-name kinds kinds-named (name n))
+  kind-name n k e d = go (meant-name other kindName kinds kinds-named (name n))
     where
       go : (meant other kinds (name n) ≡ other) ⊎ (name n ≡ bytes (kindName (meant other kinds (name n)))) → name n ≡ bytes (kindName k)
       go (inl o) = absurd (d (sym e ∙ o))
@@ -72,11 +95,8 @@ module _ {N X : Type 0} (L : Lent) (D : Doc N X) where
 
   -- a child is of a kind that is read just where it has its name
   pub kind-test : (k : Kind) → kindNamed (bytes (kindName k)) ≡ k → k ≢ other → (n : N) → sameKind (kindOf L D n) k ≡ isNamed D (kindName k) n
-  unfolding isNamed kindOf
-  kind-test k e d n =
-      same-test (sameKind (kindOf L D n) k) (isNamed D (kindName k) n)
-      (λ h. rw (kind-name n k (sameKind-eq (kindOf L D n) k h) d) (equal-refl (bytes (kindName k))))
-      (λ h. rw (equal-is (name n) (bytes (kindName k)) h, e) (sameKind-refl k))
+  unfolding isNamed kindOf kindNamed sameKind
+  kind-test k e d n = meant-test other kindName Kind-discrete kinds kinds-named k e d (name n)
 
   pub home-is : (k l : Kind) → home k ≡ l → l ≢ allowanceCharge → k ≡ l
   unfolding home sameKind
@@ -85,6 +105,13 @@ module _ {N X : Type 0} (L : Lent) (D : Doc N X) where
       go : (home k ≡ k) ⊎ (k ≡ logisticsCharge) → k ≡ l
       go (inl p) = sym p ∙ e
       go (inr p) = absurd (d (sym e ∙ ap home p))
+
+  pub at-home : (l : Kind) → Own l → (n : N) → sameKind l (home (kindOf L D n)) ≡ isNamed D (kindName l) n
+  at-home l o n =
+      same-test (sameKind l (home (kindOf L D n))) (sameKind (kindOf L D n) l)
+      (λ h. rw (home-is (kindOf L D n) l (sym (sameKind-eq l (home (kindOf L D n)) h)) (o .alone)) (sameKind-refl l))
+      (λ h. rw (sameKind-eq (kindOf L D n) l h, o .home) (sameKind-refl l))
+      ∙ kind-test l (o .named) (o .read) n
 
   -- two names of one kind: both are unmapped
   both-other : (x y : N) → kindOf L D x ≡ kindOf L D y → name x ≢ name y → kindOf L D x ≡ other
