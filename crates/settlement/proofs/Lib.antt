@@ -15,3 +15,4 @@ pub mod PlainValues
 pub mod HeldRows
 pub mod PaymentParts
 pub mod Transfers
+pub mod Edges

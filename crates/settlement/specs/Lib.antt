@@ -17,3 +17,4 @@ pub mod Last
 pub mod Sorted
 pub mod ChildRows
 pub mod Transfers
+pub mod Edges
