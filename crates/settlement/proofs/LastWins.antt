@@ -1,8 +1,9 @@
 -- The terms of which the last child of a name decides (document 01, `read.rs`: the last wins, even blank).
-use mathlib.Core.Path.{_≡_, refl, ap, _∙_}
+use mathlib.Core.Path.{_≡_, refl, ap, ap₂, _∙_}
 use mathlib.Core.Bool.{Bool, true, false, cond, true≢false}
 use mathlib.Core.List.{List, [], _∷_, foldl}
 use mathlib.Core.Option.{Option, none, some}
+use Prim.Native.Nat.{ℕ}
 use Rattle.text.specs.Order.{equal}
 use Rattle.text.specs.Utf8.{bytes, encode}
 use Rattle.settlement.specs.Document.{Doc, maybe, orElse, or}
@@ -11,7 +12,9 @@ use Rattle.settlement.specs.Shapes.{Means, unset, card, debit, transfers
 use Rattle.settlement.specs.Values.{Lent, ownText, textIn, kid, kidText}
 use Rattle.settlement.specs.Settlement.{payeeOf, quiet, periodOf, paymentTermsOf, own, act, step, besides, debited, debitOf, after, termsOf, readingOf}
 use Rattle.settlement.specs.Last.{isNamed, lastNamed, ofDebit}
+use Rattle.settlement.specs.ChildRows.{dayIn}
 use Rattle.settlement.proofs.Names.{kindName, Own, at-home}
+use Rattle.settlement.proofs.PlainValues.{date-is}
 
 module _ {N X : Type 0} (L : Lent) (D : Doc N X) where
   -- a lane that forgets what it held has what its last child makes
@@ -86,32 +89,39 @@ module _ {N X : Type 0} (L : Lent) (D : Doc N X) (cs : List N) where
   payee-last =
       lane-last L D payee (record { named = refl; home = refl; read = λ e. true≢false cc; alone = λ e. true≢false cc }) (λ n. some (payeeOf L D n)) (λ b s cur n. refl) (blank X) cs
 
-  -- BG-14 is that of the last period
-  pub period-last : readingOf L D cs .terms .period ≡ maybe none (λ n. periodOf L D n .next) (lastNamed D "BillingSpecifiedPeriod" cs)
-  unfolding readingOf termsOf after own quiet kindNamed meant kinds equal bytes encode home sameKind
+  -- BG-14 has the dates of the last period
+  pub period-last : readingOf L D cs .terms .period ≡ maybe none (λ n. some (record { start = dayIn L D n "StartDateTime"; end = dayIn L D n "EndDateTime" })) (lastNamed D "BillingSpecifiedPeriod" cs)
+  unfolding readingOf termsOf after own periodOf kindNamed meant kinds equal bytes encode home sameKind
   period-last =
-      lane-last L D period (record { named = refl; home = refl; read = λ e. true≢false cc; alone = λ e. true≢false cc }) (λ n. periodOf L D n .next) (λ b s cur n. refl) (blank X) cs
+      lane-last L D period (record { named = refl; home = refl; read = λ e. true≢false cc; alone = λ e. true≢false cc })
+      (λ n. some (record { start = dayIn L D n "StartDateTime"; end = dayIn L D n "EndDateTime" }))
+      (λ b s cur n. ap₂ (λ (a z : Option ℕ). some (record { start = a; end = z })) (date-is L D _ _ _ n "StartDateTime") (date-is L D _ _ _ n "EndDateTime")) (blank X) cs
+
+  -- what payment terms say
+  termsIn : N → PaymentTerms X
+  termsIn n = record { note = maybe none (D .text) (kid L D n "Description"); due = dayIn L D n "DueDateDateTime"; mandate = kidText L D 0 n "DirectDebitMandateID" }
 
   -- the last payment terms
-  terms-last : after L D cs paymentTerms ≡ maybe (blank X paymentTerms) (λ n. paymentTermsOf L D n .next) (lastNamed D "SpecifiedTradePaymentTerms" cs)
-  unfolding after own kindNamed meant kinds equal bytes encode home sameKind
+  terms-last : after L D cs paymentTerms ≡ maybe (blank X paymentTerms) termsIn (lastNamed D "SpecifiedTradePaymentTerms" cs)
+  unfolding after own paymentTermsOf termsIn kindNamed meant kinds equal bytes encode home sameKind
   terms-last =
-      lane-last L D paymentTerms (record { named = refl; home = refl; read = λ e. true≢false cc; alone = λ e. true≢false cc }) (λ n. paymentTermsOf L D n .next) (λ b s cur n. refl) (blank X) cs
+      lane-last L D paymentTerms (record { named = refl; home = refl; read = λ e. true≢false cc; alone = λ e. true≢false cc }) termsIn
+      (λ b s cur n. ap (λ (d : Option ℕ). record { note = maybe none (D .text) (kid L D n "Description"); due = d; mandate = kidText L D 0 n "DirectDebitMandateID" }) (date-is L D _ _ _ n "DueDateDateTime")) (blank X) cs
 
   -- BT-20 is their untrimmed description
   pub bt20-last : readingOf L D cs .terms .bt20 ≡ maybe none (λ n. maybe none (D .text) (kid L D n "Description")) (lastNamed D "SpecifiedTradePaymentTerms" cs)
-  unfolding readingOf termsOf paymentTermsOf
-  bt20-last = ap (λ (p : PaymentTerms X). p .note) terms-last ∙ through (λ (p : PaymentTerms X). p .note) (blank X paymentTerms) (λ n. paymentTermsOf L D n .next) (lastNamed D "SpecifiedTradePaymentTerms" cs)
+  unfolding readingOf termsOf termsIn
+  bt20-last = ap (λ (p : PaymentTerms X). p .note) terms-last ∙ through (λ (p : PaymentTerms X). p .note) (blank X paymentTerms) termsIn (lastNamed D "SpecifiedTradePaymentTerms" cs)
 
   -- BT-9 is their due date
-  pub bt9-last : readingOf L D cs .terms .bt9 ≡ maybe none (λ n. paymentTermsOf L D n .next .due) (lastNamed D "SpecifiedTradePaymentTerms" cs)
-  unfolding readingOf termsOf
-  bt9-last = ap (λ (p : PaymentTerms X). p .due) terms-last ∙ through (λ (p : PaymentTerms X). p .due) (blank X paymentTerms) (λ n. paymentTermsOf L D n .next) (lastNamed D "SpecifiedTradePaymentTerms" cs)
+  pub bt9-last : readingOf L D cs .terms .bt9 ≡ maybe none (λ n. dayIn L D n "DueDateDateTime") (lastNamed D "SpecifiedTradePaymentTerms" cs)
+  unfolding readingOf termsOf termsIn
+  bt9-last = ap (λ (p : PaymentTerms X). p .due) terms-last ∙ through (λ (p : PaymentTerms X). p .due) (blank X paymentTerms) termsIn (lastNamed D "SpecifiedTradePaymentTerms" cs)
 
   -- their mandate
   pub mandate-last : after L D cs paymentTerms .mandate ≡ maybe none (λ n. kidText L D 0 n "DirectDebitMandateID") (lastNamed D "SpecifiedTradePaymentTerms" cs)
-  unfolding paymentTermsOf
-  mandate-last = ap (λ (p : PaymentTerms X). p .mandate) terms-last ∙ through (λ (p : PaymentTerms X). p .mandate) (blank X paymentTerms) (λ n. paymentTermsOf L D n .next) (lastNamed D "SpecifiedTradePaymentTerms" cs)
+  unfolding termsIn
+  mandate-last = ap (λ (p : PaymentTerms X). p .mandate) terms-last ∙ through (λ (p : PaymentTerms X). p .mandate) (blank X paymentTerms) termsIn (lastNamed D "SpecifiedTradePaymentTerms" cs)
 
   -- the last creditor identifier
   pub creditor-last : after L D cs creditorReference ≡ maybe none (λ n. textIn L D 0 n) (lastNamed D "CreditorReferenceID" cs)
