@@ -21,7 +21,7 @@ use Rattle.settlement.specs.ChildRows.{vatRow, precedingRow, allowanceCh
 use Rattle.settlement.proofs.Walks.{keep-append}
 use Rattle.settlement.proofs.Lanes.{sameKind-eq, sameKind-refl, home-cases}
 use Rattle.settlement.proofs.Exchange.{rowLane, tagged-none, held-rows}
-use Rattle.settlement.proofs.Names.{kindName, Own, kind-test, home-is, at-home}
+use Rattle.settlement.proofs.Names.{kindName, Own, own-of, kind-test, home-is, at-home}
 use Rattle.settlement.proofs.PlainValues.{amount-is, required-is, code-is, percent-is, date-is, category-is}
 
 module _ {N X : Type 0} (L : Lent) (D : Doc N X) where
@@ -131,13 +131,13 @@ module _ {N X : Type 0} (L : Lent) (D : Doc N X) where
 module _ {N X : Type 0} (L : Lent) (D : Doc N X) (cs : List N) where
   -- there is one VAT row for each ApplicableTradeTax, in order
   pub vat-rows : ofKind 2 (readingOf L D cs .held) ≡ map (λ n. vat (vatRow L D n)) (keep (isNamed D "ApplicableTradeTax") cs)
-  unfolding rowLane own home sameKind kindNamed meant kinds equal bytes encode ofKind keep
-  vat-rows = rows-named L D 2 tradeTax (λ n. vat (vatRow L D n)) refl (record { named = refl; home = refl; read = λ e. true≢false cc; alone = λ e. true≢false cc }) (λ s n. ap (ofKind 2) (vat-one L D (s tradeTax) n)) cs
+  unfolding rowLane own home sameKind ofKind keep
+  vat-rows = rows-named L D 2 tradeTax (λ n. vat (vatRow L D n)) refl (own-of tradeTax tt) (λ s n. ap (ofKind 2) (vat-one L D (s tradeTax) n)) cs
 
   -- and one preceding invoice for each InvoiceReferencedDocument
   pub preceding-rows : ofKind 5 (readingOf L D cs .held) ≡ map (λ n. preceding (precedingRow L D n)) (keep (isNamed D "InvoiceReferencedDocument") cs)
-  unfolding rowLane own home sameKind kindNamed meant kinds equal bytes encode ofKind keep
-  preceding-rows = rows-named L D 5 precedingInvoice (λ n. preceding (precedingRow L D n)) refl (record { named = refl; home = refl; read = λ e. true≢false cc; alone = λ e. true≢false cc }) (λ s n. ap (ofKind 5) (preceding-one L D (s precedingInvoice) n)) cs
+  unfolding rowLane own home sameKind ofKind keep
+  preceding-rows = rows-named L D 5 precedingInvoice (λ n. preceding (precedingRow L D n)) refl (own-of precedingInvoice tt) (λ s n. ap (ofKind 5) (preceding-one L D (s precedingInvoice) n)) cs
 
   -- an allowance for each SpecifiedTradeAllowanceCharge whose indicator does not say charge
   pub allowance-rows : ofKind 3 (readingOf L D cs .held) ≡ map (λ n. allowance (allowanceChargeRow L D n)) (keep (makesAllowance L D) cs)

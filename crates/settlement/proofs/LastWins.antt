@@ -1,19 +1,17 @@
 -- The terms of which the last child of a name decides (document 01, `read.rs`: the last wins, even blank).
 use mathlib.Core.Path.{_≡_, refl, ap, ap₂, _∙_}
-use mathlib.Core.Bool.{Bool, true, false, cond, true≢false}
+use mathlib.Core.Bool.{Bool, true, false, cond}
 use mathlib.Core.List.{List, [], _∷_, foldl}
 use mathlib.Core.Option.{Option, none, some}
 use Prim.Native.Nat.{ℕ}
-use Rattle.text.specs.Order.{equal}
-use Rattle.text.specs.Utf8.{bytes, encode}
 use Rattle.settlement.specs.Document.{Doc, maybe, orElse, or}
-use Rattle.settlement.specs.Kinds.{Kind, creditorReference, paymentReference, taxCurrency, invoiceCurrency, payee, period, paymentMeans, paymentTerms, accounting, sameKind, home, meant, kinds, kindNamed}
+use Rattle.settlement.specs.Kinds.{Kind, creditorReference, paymentReference, taxCurrency, invoiceCurrency, payee, period, paymentMeans, paymentTerms, accounting}
 use Rattle.settlement.specs.Shapes.{Means, unset, card, debit, transfers, PaymentTerms, Of, State, blank, Currencies}
 use Rattle.settlement.specs.Values.{Lent, ownText, textIn, kid, kidText}
 use Rattle.settlement.specs.Settlement.{payeeOf, quiet, periodOf, paymentTermsOf, own, act, step, besides, debited, debitOf, after, termsOf, readingOf}
 use Rattle.settlement.specs.Last.{isNamed, lastNamed, ofDebit}
 use Rattle.settlement.specs.ChildRows.{dayIn}
-use Rattle.settlement.proofs.Names.{kindName, Own, at-home}
+use Rattle.settlement.proofs.Names.{kindName, Own, own-of, at-home}
 use Rattle.settlement.proofs.PlainValues.{date-is}
 
 module _ {N X : Type 0} (L : Lent) (D : Doc N X) where
@@ -60,40 +58,39 @@ through g b f (some a) = refl
 module _ {N X : Type 0} (L : Lent) (D : Doc N X) (cs : List N) where
   -- BT-5 is the trimmed text of the last InvoiceCurrencyCode, "" where that is blank
   pub bt5-last : readingOf L D cs .terms .bt5 ≡ maybe none (λ n. some (ownText L D 0 n)) (lastNamed D "InvoiceCurrencyCode" cs)
-  unfolding readingOf termsOf after own quiet kindNamed meant kinds equal bytes encode home sameKind
-  bt5-last =
-      lane-last L D invoiceCurrency (record { named = refl; home = refl; read = λ e. true≢false cc; alone = λ e. true≢false cc }) (λ n. some (ownText L D 0 n)) (λ b s cur n. refl) (blank X) cs
+  unfolding readingOf termsOf after own quiet
+  bt5-last = lane-last L D invoiceCurrency (own-of invoiceCurrency tt) (λ n. some (ownText L D 0 n)) (λ b s cur n. refl) (blank X) cs
 
   -- BT-6 of the last TaxCurrencyCode, alike
   pub bt6-last : readingOf L D cs .terms .bt6 ≡ maybe none (λ n. some (ownText L D 0 n)) (lastNamed D "TaxCurrencyCode" cs)
-  unfolding readingOf termsOf after own quiet kindNamed meant kinds equal bytes encode home sameKind
-  bt6-last =
-      lane-last L D taxCurrency (record { named = refl; home = refl; read = λ e. true≢false cc; alone = λ e. true≢false cc }) (λ n. some (ownText L D 0 n)) (λ b s cur n. refl) (blank X) cs
+  unfolding readingOf termsOf after own quiet
+  bt6-last = lane-last L D taxCurrency (own-of taxCurrency tt) (λ n. some (ownText L D 0 n)) (λ b s cur n. refl) (blank X) cs
 
-  -- BT-83 is the trimmed text of the last PaymentReference, absent where that is blank
+  -- the last PaymentReference
+  pub reference-last : after L D cs paymentReference ≡ maybe none (λ n. some (textIn L D 0 n)) (lastNamed D "PaymentReference" cs)
+  unfolding after own quiet
+  reference-last = lane-last L D paymentReference (own-of paymentReference tt) (λ n. some (textIn L D 0 n)) (λ b s cur n. refl) (blank X) cs
+
+  -- BT-83 is its trimmed text, absent where that is blank
   pub bt83-last : readingOf L D cs .terms .bt83 ≡ maybe none (λ n. textIn L D 0 n) (lastNamed D "PaymentReference" cs)
-  unfolding readingOf termsOf after own quiet kindNamed meant kinds equal bytes encode home sameKind
-  bt83-last =
-      ap (or none) (lane-last L D paymentReference (record { named = refl; home = refl; read = λ e. true≢false cc; alone = λ e. true≢false cc }) (λ n. some (textIn L D 0 n)) (λ b s cur n. refl) (blank X) cs)
-      ∙ through (or none) none (λ n. some (textIn L D 0 n)) (lastNamed D "PaymentReference" cs)
+  unfolding readingOf termsOf
+  bt83-last = ap (or none) reference-last ∙ through (or none) none (λ n. some (textIn L D 0 n)) (lastNamed D "PaymentReference" cs)
 
   -- BT-19 is the ID of the last accounting account
   pub bt19-last : readingOf L D cs .terms .bt19 ≡ maybe none (λ n. kidText L D 0 n "ID") (lastNamed D "ReceivableSpecifiedTradeAccountingAccount" cs)
-  unfolding readingOf termsOf after own quiet kindNamed meant kinds equal bytes encode home sameKind
-  bt19-last =
-      lane-last L D accounting (record { named = refl; home = refl; read = λ e. true≢false cc; alone = λ e. true≢false cc }) (λ n. kidText L D 0 n "ID") (λ b s cur n. refl) (blank X) cs
+  unfolding readingOf termsOf after own quiet
+  bt19-last = lane-last L D accounting (own-of accounting tt) (λ n. kidText L D 0 n "ID") (λ b s cur n. refl) (blank X) cs
 
   -- BG-10 is that of the last payee
   pub payee-last : readingOf L D cs .terms .payee ≡ maybe none (λ n. some (payeeOf L D n)) (lastNamed D "PayeeTradeParty" cs)
-  unfolding readingOf termsOf after own quiet kindNamed meant kinds equal bytes encode home sameKind
-  payee-last =
-      lane-last L D payee (record { named = refl; home = refl; read = λ e. true≢false cc; alone = λ e. true≢false cc }) (λ n. some (payeeOf L D n)) (λ b s cur n. refl) (blank X) cs
+  unfolding readingOf termsOf after own quiet
+  payee-last = lane-last L D payee (own-of payee tt) (λ n. some (payeeOf L D n)) (λ b s cur n. refl) (blank X) cs
 
   -- BG-14 has the dates of the last period
   pub period-last : readingOf L D cs .terms .period ≡ maybe none (λ n. some (record { start = dayIn L D n "StartDateTime"; end = dayIn L D n "EndDateTime" })) (lastNamed D "BillingSpecifiedPeriod" cs)
-  unfolding readingOf termsOf after own periodOf kindNamed meant kinds equal bytes encode home sameKind
+  unfolding readingOf termsOf after own periodOf
   period-last =
-      lane-last L D period (record { named = refl; home = refl; read = λ e. true≢false cc; alone = λ e. true≢false cc })
+      lane-last L D period (own-of period tt)
       (λ n. some (record { start = dayIn L D n "StartDateTime"; end = dayIn L D n "EndDateTime" }))
       (λ b s cur n. ap₂ (λ (a z : Option ℕ). some (record { start = a; end = z })) (date-is L D _ _ _ n "StartDateTime") (date-is L D _ _ _ n "EndDateTime")) (blank X) cs
 
@@ -103,9 +100,9 @@ module _ {N X : Type 0} (L : Lent) (D : Doc N X) (cs : List N) where
 
   -- the last payment terms
   terms-last : after L D cs paymentTerms ≡ maybe (blank X paymentTerms) termsIn (lastNamed D "SpecifiedTradePaymentTerms" cs)
-  unfolding after own paymentTermsOf termsIn kindNamed meant kinds equal bytes encode home sameKind
+  unfolding after own paymentTermsOf termsIn
   terms-last =
-      lane-last L D paymentTerms (record { named = refl; home = refl; read = λ e. true≢false cc; alone = λ e. true≢false cc }) termsIn
+      lane-last L D paymentTerms (own-of paymentTerms tt) termsIn
       (λ b s cur n. ap (λ (d : Option ℕ). record { note = maybe none (D .text) (kid L D n "Description"); due = d; mandate = kidText L D 0 n "DirectDebitMandateID" }) (date-is L D _ _ _ n "DueDateDateTime")) (blank X) cs
 
   -- BT-20 is their untrimmed description
@@ -125,9 +122,8 @@ module _ {N X : Type 0} (L : Lent) (D : Doc N X) (cs : List N) where
 
   -- the last creditor identifier
   pub creditor-last : after L D cs creditorReference ≡ maybe none (λ n. textIn L D 0 n) (lastNamed D "CreditorReferenceID" cs)
-  unfolding after own quiet kindNamed meant kinds equal bytes encode home sameKind
-  creditor-last =
-      lane-last L D creditorReference (record { named = refl; home = refl; read = λ e. true≢false cc; alone = λ e. true≢false cc }) (λ n. textIn L D 0 n) (λ b s cur n. refl) (blank X) cs
+  unfolding after own quiet
+  creditor-last = lane-last L D creditorReference (own-of creditorReference tt) (λ n. textIn L D 0 n) (λ b s cur n. refl) (blank X) cs
 
   -- BT-89 is their mandate, where the means is a direct debit
   pub bt89-last : readingOf L D cs .terms .bt89 ≡ ofDebit (readingOf L D cs .terms .means) (maybe none (λ n. kidText L D 0 n "DirectDebitMandateID") (lastNamed D "SpecifiedTradePaymentTerms" cs))

@@ -15,4 +15,5 @@ pub mod PlainValues
 pub mod HeldRows
 pub mod PaymentParts
 pub mod Transfers
+pub mod FirstWins
 pub mod Edges

@@ -6,7 +6,7 @@ use mathlib.Core.Logic.{_⊎_, inl, inr, _≢_}
 use Prim.Native.Nat.{ℕ}
 use Prim.Native.String.{String}
 use Rattle.text.specs.Order.{equal}
-use Rattle.text.specs.Utf8.{bytes}
+use Rattle.text.specs.Utf8.{bytes, encode}
 use Rattle.text.proofs.Orders.{equal-is, equal-refl, order-is, order-turned, order-trans}
 use Rattle.report.specs.Rows.{Unmapped}
 use Rattle.report.proofs.Numbers.{parent-same}
@@ -79,6 +79,42 @@ pub record Own (l : Kind) : Type 0 where
   pub home : home l ≡ l
   pub read : l ≢ other
   pub alone : l ≢ allowanceCharge
+
+-- the kinds that have one
+abbrev pub Alone : Kind → Type 0
+Alone creditorReference = Unit {0}
+Alone paymentReference = Unit {0}
+Alone taxCurrency = Unit {0}
+Alone invoiceCurrency = Unit {0}
+Alone payee = Unit {0}
+Alone paymentMeans = Unit {0}
+Alone tradeTax = Unit {0}
+Alone period = Unit {0}
+Alone allowanceCharge = ⊥
+Alone logisticsCharge = ⊥
+Alone paymentTerms = Unit {0}
+Alone summation = Unit {0}
+Alone precedingInvoice = Unit {0}
+Alone accounting = Unit {0}
+Alone other = ⊥
+
+pub own-of : (l : Kind) → Alone l → Own l
+unfolding home sameKind meant kinds kindNamed equal bytes encode
+own-of creditorReference a = record { named = refl; home = refl; read = λ e. true≢false cc; alone = λ e. true≢false cc }
+own-of paymentReference a = record { named = refl; home = refl; read = λ e. true≢false cc; alone = λ e. true≢false cc }
+own-of taxCurrency a = record { named = refl; home = refl; read = λ e. true≢false cc; alone = λ e. true≢false cc }
+own-of invoiceCurrency a = record { named = refl; home = refl; read = λ e. true≢false cc; alone = λ e. true≢false cc }
+own-of payee a = record { named = refl; home = refl; read = λ e. true≢false cc; alone = λ e. true≢false cc }
+own-of paymentMeans a = record { named = refl; home = refl; read = λ e. true≢false cc; alone = λ e. true≢false cc }
+own-of tradeTax a = record { named = refl; home = refl; read = λ e. true≢false cc; alone = λ e. true≢false cc }
+own-of period a = record { named = refl; home = refl; read = λ e. true≢false cc; alone = λ e. true≢false cc }
+own-of allowanceCharge a = absurd a
+own-of logisticsCharge a = absurd a
+own-of paymentTerms a = record { named = refl; home = refl; read = λ e. true≢false cc; alone = λ e. true≢false cc }
+own-of summation a = record { named = refl; home = refl; read = λ e. true≢false cc; alone = λ e. true≢false cc }
+own-of precedingInvoice a = record { named = refl; home = refl; read = λ e. true≢false cc; alone = λ e. true≢false cc }
+own-of accounting a = record { named = refl; home = refl; read = λ e. true≢false cc; alone = λ e. true≢false cc }
+own-of other a = absurd a
 
 module _ {N X : Type 0} (L : Lent) (D : Doc N X) where
   abbrev name : N → List ℕ

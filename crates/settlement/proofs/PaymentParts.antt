@@ -21,7 +21,7 @@ use Rattle.settlement.proofs.Lanes.{isYes-true}
 use Rattle.settlement.proofs.Names.{Named, meant-test}
 
 -- the name of a part
-abbrev partName : Part → String
+abbrev pub partName : Part → String
 partName typeCode = "TypeCode"
 partName information = "Information"
 partName financialCard = "ApplicableTradeSettlementFinancialCard"
@@ -64,7 +64,7 @@ read-part unknown h = absurd (h refl)
 
 module _ {N X : Type 0} (L : Lent) (D : Doc N X) where
   -- a part has its name
-  part-test : (p : Part) → p ≢ unknown → (c : N) → isNamed D (partName p) c ≡ isYes (Part-discrete (partOf L D c) p)
+  pub part-test : (p : Part) → p ≢ unknown → (c : N) → isNamed D (partName p) c ≡ isYes (Part-discrete (partOf L D c) p)
   unfolding isNamed partOf
   part-test p h c = sym (meant-test unknown partName Part-discrete parts parts-named p (read-part p h) h (D .bytes (D .name c)))
 
@@ -96,7 +96,7 @@ module _ {N X : Type 0} (L : Lent) (D : Doc N X) where
   creditor-means (debit a) c s e = e
   creditor-means transfers c s e = refl
 
-  provider-payment : (b : Bool) (l : List (Transfer X)) (o : Option X) (s : Paying X) → providerOf L D b l o s .payment ≡ s .payment
+  pub provider-payment : (b : Bool) (l : List (Transfer X)) (o : Option X) (s : Paying X) → providerOf L D b l o s .payment ≡ s .payment
   unfolding providerOf notHeld
   provider-payment true [] none s = refl
   provider-payment true [] (some x) s = refl

@@ -3,11 +3,9 @@ use mathlib.Core.Path.{_≡_, refl, sym, ap, ap₂, _∙_}
 use mathlib.Core.Bool.{Bool, true, false, cond, _&&_, true≢false}
 use mathlib.Core.List.{List, [], _∷_, _++_, map, foldl, flatMap}
 use mathlib.Core.Option.{Option, none, some}
-use Rattle.text.specs.Order.{equal}
-use Rattle.text.specs.Utf8.{bytes, encode}
 use Rattle.report.specs.Rows.{Transfer, Held, transfer}
 use Rattle.settlement.specs.Document.{Doc, maybe}
-use Rattle.settlement.specs.Kinds.{creditorReference, paymentMeans, paymentTerms, sameKind, home, meant, kinds, kindNamed}
+use Rattle.settlement.specs.Kinds.{creditorReference, paymentMeans, paymentTerms, sameKind, home}
 use Rattle.settlement.specs.Shapes.{Means, unset, card, debit, transfers, Payment, State, blank}
 use Rattle.settlement.specs.Values.{Lent, textIn, kidText}
 use Rattle.settlement.specs.Payments.{paid, paymentMeansOf}
@@ -21,7 +19,7 @@ use Rattle.settlement.proofs.Maps.{map-append}
 use Rattle.settlement.proofs.Walks.{keep-append}
 use Rattle.settlement.proofs.Lanes.{sameKind-eq, sameKind-refl}
 use Rattle.settlement.proofs.Exchange.{rowLane, frame, own-lane}
-use Rattle.settlement.proofs.Names.{Own, home-is, at-home}
+use Rattle.settlement.proofs.Names.{own-of, home-is, at-home}
 use Rattle.settlement.proofs.HeldRows.{holds-as, holds-none}
 use Rattle.settlement.proofs.LastWins.{mandate-last, creditor-last}
 use Rattle.settlement.proofs.PaymentParts.{or-assoc, or-unset, or-rest, fixed-append, no-account, paid-means, paid-rows}
@@ -39,10 +37,6 @@ only-transfers [] = refl
 only-transfers (t ∷ l) = ap (λ r. transfer t ∷ r) (only-transfers l)
 
 module _ {N X : Type 0} (L : Lent) (D : Doc N X) where
-  means-own : Own paymentMeans
-  unfolding home sameKind meant kinds kindNamed equal bytes encode
-  means-own = record { named = refl; home = refl; read = λ e. true≢false cc; alone = λ e. true≢false cc }
-
   -- all transfers, where they are held
   allTransfers : List N → List (Transfer X)
   allTransfers cs = flatMap (λ n. transfersIn L D (D .kids n)) (paymentMeansIn L D cs)
@@ -70,7 +64,7 @@ module _ {N X : Type 0} (L : Lent) (D : Doc N X) where
   -- what one child does to the kind of means
   step-means : (s : State X) (c : N) → step L D s c paymentMeans .means ≡ orMeans (s paymentMeans .means) (fixed L D (partsOf c))
   unfolding partsOf own act paymentMeansOf fixed
-  step-means s c = rw (← (at-home L D paymentMeans means-own c)) (go (sameKind paymentMeans (home (kindOf L D c))) refl)
+  step-means s c = rw (← (at-home L D paymentMeans (own-of paymentMeans tt) c)) (go (sameKind paymentMeans (home (kindOf L D c))) refl)
     where
       go : (b : Bool) → sameKind paymentMeans (home (kindOf L D c)) ≡ b → step L D s c paymentMeans .means ≡ orMeans (s paymentMeans .means) (fixed L D (cond b (D .kids c) []))
       go true e = ap (λ (p : Payment X). p .means) (own-lane L D paymentMeans s c e) ∙ paid-means L D (s paymentMeans) c
@@ -79,7 +73,7 @@ module _ {N X : Type 0} (L : Lent) (D : Doc N X) where
   -- the transfers that it makes
   step-rows : (s : State X) (c : N) → ofKind 1 (holdsOf L D s c) ≡ map transfer (cond (areTransfers (orMeans (s paymentMeans .means) (fixed L D (partsOf c)))) (transfersIn L D (partsOf c)) [])
   unfolding partsOf own home sameKind paymentMeansOf fixed transfersIn rowLane
-  step-rows s c = rw (← (at-home L D paymentMeans means-own c)) (go (sameKind paymentMeans (home (kindOf L D c))) refl)
+  step-rows s c = rw (← (at-home L D paymentMeans (own-of paymentMeans tt) c)) (go (sameKind paymentMeans (home (kindOf L D c))) refl)
     where
       nothing : (b : Bool) → _≡_ {A = List (Held X)} [] (map transfer (cond b [] []))
       nothing true = refl
@@ -87,7 +81,7 @@ module _ {N X : Type 0} (L : Lent) (D : Doc N X) where
 
       go : (b : Bool) → sameKind paymentMeans (home (kindOf L D c)) ≡ b → ofKind 1 (holdsOf L D s c) ≡ map transfer (cond (areTransfers (orMeans (s paymentMeans .means) (fixed L D (cond b (D .kids c) [])))) (transfersIn L D (cond b (D .kids c) [])) [])
       go true e =
-          ap (ofKind 1) (holds-as L D s c paymentMeans (home-is L D (kindOf L D c) paymentMeans (sym (sameKind-eq paymentMeans (home (kindOf L D c)) e)) (means-own .alone)))
+          ap (ofKind 1) (holds-as L D s c paymentMeans (home-is L D (kindOf L D c) paymentMeans (sym (sameKind-eq paymentMeans (home (kindOf L D c)) e)) (own-of paymentMeans tt .alone)))
           ∙ only-transfers (paid L D (s paymentMeans) c .rows)
           ∙ ap (map transfer) (paid-rows L D (s paymentMeans) c)
       go false e = holds-none L D 1 s c (λ p. true≢false (sym (sameKind-refl paymentMeans) ∙ ap (sameKind paymentMeans) p ∙ e)) ∙ nothing (areTransfers (orMeans (s paymentMeans .means) unset))

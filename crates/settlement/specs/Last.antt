@@ -1,4 +1,4 @@
--- Children by name, the last of them, and the terms of a direct debit, for the laws that say a reading without a state.
+-- Children by name, the last of them, the first that gives something, and the terms of a direct debit, for the laws that say a reading without a state.
 use mathlib.Core.Bool.{Bool, cond}
 use mathlib.Core.List.{List, [], _∷_}
 use mathlib.Core.Option.{Option, none, some}
@@ -16,6 +16,11 @@ isNamed D w n = equal (D .bytes (D .name n)) (bytes w)
 unfoldable pub lastNamed : {N X : Type 0} → Doc N X → String → List N → Option N
 lastNamed D w [] = none
 lastNamed D w (c ∷ cs) = orElse (lastNamed D w cs) (cond (isNamed D w c) (some c) none)
+
+-- what the first child that gives something gives
+unfoldable pub firstGiven : {N A : Type 0} → (N → Option A) → List N → Option A
+firstGiven f [] = none
+firstGiven f (c ∷ cs) = orElse (f c) (firstGiven f cs)
 
 -- a term of the direct debit (BG-19), absent beside any other means
 abbrev pub ofDebit : {X : Type 0} → Means X → Option X → Option X
