@@ -4,29 +4,36 @@ use mathlib.Core.Bool.{Bool, true, false, cond}
 use mathlib.Core.List.{List, [], _∷_, foldl}
 use mathlib.Core.Option.{Option, none, some}
 use Prim.Native.Nat.{ℕ}
+use Prim.Native.String.{String}
+use lib.IntN.{ℤ, pos}
 use Rattle.settlement.specs.Document.{Doc, maybe, orElse, or}
-use Rattle.settlement.specs.Kinds.{Kind, creditorReference, paymentReference, taxCurrency, invoiceCurrency, payee, period, paymentMeans, paymentTerms, accounting}
-use Rattle.settlement.specs.Shapes.{Means, unset, card, debit, transfers, PaymentTerms, Of, State, blank, Currencies}
+use Rattle.settlement.specs.Kinds.{Kind, creditorReference, paymentReference, taxCurrency, invoiceCurrency, payee, period, paymentMeans, paymentTerms, summation, accounting}
+use Rattle.settlement.specs.Shapes.{Payee, Means, unset, card, debit, transfers, PaymentTerms, Period, Totals, noTotals, Of, State, blank, Currencies}
 use Rattle.settlement.specs.Values.{Lent, ownText, textIn, kid, kidText}
+use Rattle.settlement.specs.Summation.{totals}
 use Rattle.settlement.specs.Settlement.{payeeOf, quiet, periodOf, paymentTermsOf, own, act, step, besides, debited, debitOf, after, termsOf, readingOf}
 use Rattle.settlement.specs.Last.{isNamed, lastNamed, ofDebit}
-use Rattle.settlement.specs.ChildRows.{dayIn}
+use Rattle.settlement.specs.ChildRows.{amountIn, dayIn}
 use Rattle.settlement.proofs.Names.{kindName, Own, own-of, at-home}
-use Rattle.settlement.proofs.PlainValues.{date-is}
+use Rattle.settlement.proofs.PlainValues.{required-is, date-is}
 
 module _ {N X : Type 0} (L : Lent) (D : Doc N X) where
-  -- a lane that forgets what it held has what its last child makes
-  module _ (l : Kind) (o : Own l) (f : N → Of X l) (forgets : (b : Bool) (s : Of X l) (cur : Currencies X) (n : N) → own L D l b s cur n .next ≡ f n) where
-    one : (s : State X) (n : N) → step L D s n l ≡ cond (isNamed D (kindName l) n) (f n) (s l)
+  -- what a lane forgets, its last child makes
+  module _ {B : Type 0} (l : Kind) (o : Own l) (has : Of X l → B) (f : N → B) (forgets : (b : Bool) (s : Of X l) (cur : Currencies X) (n : N) → has (own L D l b s cur n .next) ≡ f n) where
+    one : (s : State X) (n : N) → has (step L D s n l) ≡ cond (isNamed D (kindName l) n) (f n) (has (s l))
     unfolding step act
-    one s n = rw (at-home L D l o n, forgets _ (s l) _ n)
+    one s n = rw (at-home L D l o n) (go (isNamed D (kindName l) n))
+      where
+        go : (b : Bool) → has (cond b (act L D l s n .next) (s l)) ≡ cond b (f n) (has (s l))
+        go true = forgets _ (s l) _ n
+        go false = refl
 
-    lane-last : (s : State X) (cs : List N) → foldl (step L D) s cs l ≡ maybe (s l) f (lastNamed D (kindName l) cs)
+    lane-last : (s : State X) (cs : List N) → has (foldl (step L D) s cs l) ≡ maybe (has (s l)) f (lastNamed D (kindName l) cs)
     unfolding lastNamed
     lane-last s [] = refl
     lane-last s (c ∷ cs) = lane-last (step L D s c) cs ∙ go (lastNamed D (kindName l) cs) (isNamed D (kindName l) c) (one s c)
       where
-        go : (r : Option N) (b : Bool) {a : Of X l} → a ≡ cond b (f c) (s l) → maybe a f r ≡ maybe (s l) f (orElse r (cond b (some c) none))
+        go : (r : Option N) (b : Bool) {a : B} → a ≡ cond b (f c) (has (s l)) → maybe a f r ≡ maybe (has (s l)) f (orElse r (cond b (some c) none))
         go none true e = e
         go none false e = e
         go (some n) b e = refl
@@ -51,79 +58,64 @@ module _ {N X : Type 0} (L : Lent) (D : Doc N X) where
   debited-creditor (debit x) a c = refl
   debited-creditor transfers a c = refl
 
-through : {A B C : Type 0} (g : B → C) (b : B) (f : A → B) (o : Option A) → g (maybe b f o) ≡ maybe (g b) (λ a. g (f a)) o
-through g b f none = refl
-through g b f (some a) = refl
-
 module _ {N X : Type 0} (L : Lent) (D : Doc N X) (cs : List N) where
   -- BT-5 is the trimmed text of the last InvoiceCurrencyCode, "" where that is blank
   pub bt5-last : readingOf L D cs .terms .bt5 ≡ maybe none (λ n. some (ownText L D 0 n)) (lastNamed D "InvoiceCurrencyCode" cs)
   unfolding readingOf termsOf after own quiet
-  bt5-last = lane-last L D invoiceCurrency (own-of invoiceCurrency tt) (λ n. some (ownText L D 0 n)) (λ b s cur n. refl) (blank X) cs
+  bt5-last = lane-last L D invoiceCurrency (own-of invoiceCurrency tt) (λ (s : Option X). s) (λ n. some (ownText L D 0 n)) (λ b s cur n. refl) (blank X) cs
 
   -- BT-6 of the last TaxCurrencyCode, alike
   pub bt6-last : readingOf L D cs .terms .bt6 ≡ maybe none (λ n. some (ownText L D 0 n)) (lastNamed D "TaxCurrencyCode" cs)
   unfolding readingOf termsOf after own quiet
-  bt6-last = lane-last L D taxCurrency (own-of taxCurrency tt) (λ n. some (ownText L D 0 n)) (λ b s cur n. refl) (blank X) cs
+  bt6-last = lane-last L D taxCurrency (own-of taxCurrency tt) (λ (s : Option X). s) (λ n. some (ownText L D 0 n)) (λ b s cur n. refl) (blank X) cs
 
   -- the last PaymentReference
   pub reference-last : after L D cs paymentReference ≡ maybe none (λ n. some (textIn L D 0 n)) (lastNamed D "PaymentReference" cs)
   unfolding after own quiet
-  reference-last = lane-last L D paymentReference (own-of paymentReference tt) (λ n. some (textIn L D 0 n)) (λ b s cur n. refl) (blank X) cs
+  reference-last = lane-last L D paymentReference (own-of paymentReference tt) (λ (s : Option (Option X)). s) (λ n. some (textIn L D 0 n)) (λ b s cur n. refl) (blank X) cs
 
   -- BT-83 is its trimmed text, absent where that is blank
   pub bt83-last : readingOf L D cs .terms .bt83 ≡ maybe none (λ n. textIn L D 0 n) (lastNamed D "PaymentReference" cs)
-  unfolding readingOf termsOf
-  bt83-last = ap (or none) reference-last ∙ through (or none) none (λ n. some (textIn L D 0 n)) (lastNamed D "PaymentReference" cs)
+  unfolding readingOf termsOf after own quiet
+  bt83-last = lane-last L D paymentReference (own-of paymentReference tt) (or none) (λ n. textIn L D 0 n) (λ b s cur n. refl) (blank X) cs
 
   -- BT-19 is the ID of the last accounting account
   pub bt19-last : readingOf L D cs .terms .bt19 ≡ maybe none (λ n. kidText L D 0 n "ID") (lastNamed D "ReceivableSpecifiedTradeAccountingAccount" cs)
   unfolding readingOf termsOf after own quiet
-  bt19-last = lane-last L D accounting (own-of accounting tt) (λ n. kidText L D 0 n "ID") (λ b s cur n. refl) (blank X) cs
+  bt19-last = lane-last L D accounting (own-of accounting tt) (λ (s : Option X). s) (λ n. kidText L D 0 n "ID") (λ b s cur n. refl) (blank X) cs
 
   -- BG-10 is that of the last payee
   pub payee-last : readingOf L D cs .terms .payee ≡ maybe none (λ n. some (payeeOf L D n)) (lastNamed D "PayeeTradeParty" cs)
   unfolding readingOf termsOf after own quiet
-  payee-last = lane-last L D payee (own-of payee tt) (λ n. some (payeeOf L D n)) (λ b s cur n. refl) (blank X) cs
+  payee-last = lane-last L D payee (own-of payee tt) (λ (s : Option (Payee X)). s) (λ n. some (payeeOf L D n)) (λ b s cur n. refl) (blank X) cs
 
   -- BG-14 has the dates of the last period
   pub period-last : readingOf L D cs .terms .period ≡ maybe none (λ n. some (record { start = dayIn L D n "StartDateTime"; end = dayIn L D n "EndDateTime" })) (lastNamed D "BillingSpecifiedPeriod" cs)
   unfolding readingOf termsOf after own periodOf
   period-last =
-      lane-last L D period (own-of period tt)
+      lane-last L D period (own-of period tt) (λ (s : Option Period). s)
       (λ n. some (record { start = dayIn L D n "StartDateTime"; end = dayIn L D n "EndDateTime" }))
       (λ b s cur n. ap₂ (λ (a z : Option ℕ). some (record { start = a; end = z })) (date-is L D _ _ _ n "StartDateTime") (date-is L D _ _ _ n "EndDateTime")) (blank X) cs
 
-  -- what payment terms say
-  termsIn : N → PaymentTerms X
-  termsIn n = record { note = maybe none (D .text) (kid L D n "Description"); due = dayIn L D n "DueDateDateTime"; mandate = kidText L D 0 n "DirectDebitMandateID" }
-
-  -- the last payment terms
-  terms-last : after L D cs paymentTerms ≡ maybe (blank X paymentTerms) termsIn (lastNamed D "SpecifiedTradePaymentTerms" cs)
-  unfolding after own paymentTermsOf termsIn
-  terms-last =
-      lane-last L D paymentTerms (own-of paymentTerms tt) termsIn
-      (λ b s cur n. ap (λ (d : Option ℕ). record { note = maybe none (D .text) (kid L D n "Description"); due = d; mandate = kidText L D 0 n "DirectDebitMandateID" }) (date-is L D _ _ _ n "DueDateDateTime")) (blank X) cs
-
-  -- BT-20 is their untrimmed description
+  -- BT-20 is the untrimmed description of the last payment terms
   pub bt20-last : readingOf L D cs .terms .bt20 ≡ maybe none (λ n. maybe none (D .text) (kid L D n "Description")) (lastNamed D "SpecifiedTradePaymentTerms" cs)
-  unfolding readingOf termsOf termsIn
-  bt20-last = ap (λ (p : PaymentTerms X). p .note) terms-last ∙ through (λ (p : PaymentTerms X). p .note) (blank X paymentTerms) termsIn (lastNamed D "SpecifiedTradePaymentTerms" cs)
+  unfolding readingOf termsOf after own paymentTermsOf
+  bt20-last = lane-last L D paymentTerms (own-of paymentTerms tt) (λ (s : PaymentTerms X). s .note) (λ n. maybe none (D .text) (kid L D n "Description")) (λ b s cur n. refl) (blank X) cs
 
   -- BT-9 is their due date
   pub bt9-last : readingOf L D cs .terms .bt9 ≡ maybe none (λ n. dayIn L D n "DueDateDateTime") (lastNamed D "SpecifiedTradePaymentTerms" cs)
-  unfolding readingOf termsOf termsIn
-  bt9-last = ap (λ (p : PaymentTerms X). p .due) terms-last ∙ through (λ (p : PaymentTerms X). p .due) (blank X paymentTerms) termsIn (lastNamed D "SpecifiedTradePaymentTerms" cs)
+  unfolding readingOf termsOf after own paymentTermsOf
+  bt9-last = lane-last L D paymentTerms (own-of paymentTerms tt) (λ (s : PaymentTerms X). s .due) (λ n. dayIn L D n "DueDateDateTime") (λ b s cur n. date-is L D _ _ _ n "DueDateDateTime") (blank X) cs
 
   -- their mandate
   pub mandate-last : after L D cs paymentTerms .mandate ≡ maybe none (λ n. kidText L D 0 n "DirectDebitMandateID") (lastNamed D "SpecifiedTradePaymentTerms" cs)
-  unfolding termsIn
-  mandate-last = ap (λ (p : PaymentTerms X). p .mandate) terms-last ∙ through (λ (p : PaymentTerms X). p .mandate) (blank X paymentTerms) termsIn (lastNamed D "SpecifiedTradePaymentTerms" cs)
+  unfolding after own paymentTermsOf
+  mandate-last = lane-last L D paymentTerms (own-of paymentTerms tt) (λ (s : PaymentTerms X). s .mandate) (λ n. kidText L D 0 n "DirectDebitMandateID") (λ b s cur n. refl) (blank X) cs
 
   -- the last creditor identifier
   pub creditor-last : after L D cs creditorReference ≡ maybe none (λ n. textIn L D 0 n) (lastNamed D "CreditorReferenceID" cs)
   unfolding after own quiet
-  creditor-last = lane-last L D creditorReference (own-of creditorReference tt) (λ n. textIn L D 0 n) (λ b s cur n. refl) (blank X) cs
+  creditor-last = lane-last L D creditorReference (own-of creditorReference tt) (λ (s : Option X). s) (λ n. textIn L D 0 n) (λ b s cur n. refl) (blank X) cs
 
   -- BT-89 is their mandate, where the means is a direct debit
   pub bt89-last : readingOf L D cs .terms .bt89 ≡ ofDebit (readingOf L D cs .terms .means) (maybe none (λ n. kidText L D 0 n "DirectDebitMandateID") (lastNamed D "SpecifiedTradePaymentTerms" cs))
@@ -134,3 +126,30 @@ module _ {N X : Type 0} (L : Lent) (D : Doc N X) (cs : List N) where
   pub bt90-last : readingOf L D cs .terms .bt90 ≡ ofDebit (readingOf L D cs .terms .means) (maybe none (λ n. textIn L D 0 n) (lastNamed D "CreditorReferenceID" cs))
   unfolding readingOf termsOf debitOf
   bt90-last = debited-creditor L D (after L D cs paymentMeans .means) (after L D cs paymentTerms .mandate) (after L D cs creditorReference) ∙ ap (ofDebit (readingOf L D cs .terms .means)) creditor-last
+
+  -- a required amount of the last summation, 0 where it is missing or can't be read
+  required-last : (has : Totals → ℤ) (w : String) → has noTotals ≡ pos 0 → ((cur : Currencies X) (n : N) → has (or noTotals (totals L D cur n .next)) ≡ or (pos 0) (amountIn L D n w)) → has (readingOf L D cs .terms .totals) ≡ maybe (pos 0) (λ n. or (pos 0) (amountIn L D n w)) (lastNamed D "SpecifiedTradeSettlementHeaderMonetarySummation" cs)
+  unfolding readingOf termsOf after own
+  required-last has w z h =
+      lane-last L D summation (own-of summation tt) (λ (s : Option Totals). has (or noTotals s)) (λ n. or (pos 0) (amountIn L D n w)) (λ b s cur n. h cur n) (blank X) cs
+      ∙ ap (λ (a : ℤ). maybe a (λ n. or (pos 0) (amountIn L D n w)) (lastNamed D "SpecifiedTradeSettlementHeaderMonetarySummation" cs)) z
+
+  -- BT-106 is its LineTotalAmount
+  pub bt106-last : readingOf L D cs .terms .totals .line ≡ maybe (pos 0) (λ n. or (pos 0) (amountIn L D n "LineTotalAmount")) (lastNamed D "SpecifiedTradeSettlementHeaderMonetarySummation" cs)
+  unfolding totals
+  bt106-last = required-last (λ (t : Totals). t .line) "LineTotalAmount" refl (λ cur n. required-is L D _ _ _ n "LineTotalAmount")
+
+  -- BT-109 its TaxBasisTotalAmount
+  pub bt109-last : readingOf L D cs .terms .totals .taxable ≡ maybe (pos 0) (λ n. or (pos 0) (amountIn L D n "TaxBasisTotalAmount")) (lastNamed D "SpecifiedTradeSettlementHeaderMonetarySummation" cs)
+  unfolding totals
+  bt109-last = required-last (λ (t : Totals). t .taxable) "TaxBasisTotalAmount" refl (λ cur n. required-is L D _ _ _ n "TaxBasisTotalAmount")
+
+  -- BT-112 its GrandTotalAmount
+  pub bt112-last : readingOf L D cs .terms .totals .gross ≡ maybe (pos 0) (λ n. or (pos 0) (amountIn L D n "GrandTotalAmount")) (lastNamed D "SpecifiedTradeSettlementHeaderMonetarySummation" cs)
+  unfolding totals
+  bt112-last = required-last (λ (t : Totals). t .gross) "GrandTotalAmount" refl (λ cur n. required-is L D _ _ _ n "GrandTotalAmount")
+
+  -- BT-115 its DuePayableAmount
+  pub bt115-last : readingOf L D cs .terms .totals .due ≡ maybe (pos 0) (λ n. or (pos 0) (amountIn L D n "DuePayableAmount")) (lastNamed D "SpecifiedTradeSettlementHeaderMonetarySummation" cs)
+  unfolding totals
+  bt115-last = required-last (λ (t : Totals). t .due) "DuePayableAmount" refl (λ cur n. required-is L D _ _ _ n "DuePayableAmount")
