@@ -24,20 +24,20 @@ module _ {N X : Type 0} (L : Lent) (D : Doc N X) where
     pub read : l ≢ other
     pub alone : l ≢ allowanceCharge
 
-  at-home : (l : Kind) → Own l → (n : N) → sameKind l (home (kindOf L D n)) ≡ equal (D .bytes (D .name n)) (bytes (kindName l))
-  at-home l o n = go (sameKind l (home (kindOf L D n))) (equal (D .bytes (D .name n)) (bytes (kindName l))) refl refl
+  at-home : (l : Kind) → Own l → (n : N) → sameKind l (home (kindOf D n)) ≡ equal (D .bytes (D .name n)) (bytes (kindName l))
+  at-home l o n = go (sameKind l (home (kindOf D n))) (equal (D .bytes (D .name n)) (bytes (kindName l))) refl refl
     where
-      there : sameKind l (home (kindOf L D n)) ≡ true → equal (D .bytes (D .name n)) (bytes (kindName l)) ≡ true
+      there : sameKind l (home (kindOf D n)) ≡ true → equal (D .bytes (D .name n)) (bytes (kindName l)) ≡ true
       there e =
-          let k : kindOf L D n ≡ l = home-is L D (kindOf L D n) l (sym (sameKind-eq l (home (kindOf L D n)) e)) (o .alone) in
+          let k : kindOf D n ≡ l = home-is L D (kindOf D n) l (sym (sameKind-eq l (home (kindOf D n)) e)) (o .alone) in
           rw (kind-name L D n l k (o .read)) (equal-refl (bytes (kindName l)))
 
-      back : equal (D .bytes (D .name n)) (bytes (kindName l)) ≡ true → sameKind l (home (kindOf L D n)) ≡ true
+      back : equal (D .bytes (D .name n)) (bytes (kindName l)) ≡ true → sameKind l (home (kindOf D n)) ≡ true
       back e =
-          let k : kindOf L D n ≡ l = unfold kindOf in (ap kindNamed (equal-is (D .bytes (D .name n)) (bytes (kindName l)) e) ∙ o .named) in
+          let k : kindOf D n ≡ l = unfold kindOf in (ap kindNamed (equal-is (D .bytes (D .name n)) (bytes (kindName l)) e) ∙ o .named) in
           rw (k, o .home) (sameKind-refl l)
 
-      go : (a b : Bool) → sameKind l (home (kindOf L D n)) ≡ a → equal (D .bytes (D .name n)) (bytes (kindName l)) ≡ b → a ≡ b
+      go : (a b : Bool) → sameKind l (home (kindOf D n)) ≡ a → equal (D .bytes (D .name n)) (bytes (kindName l)) ≡ b → a ≡ b
       go true true p q = refl
       go true false p q = sym (there p) ∙ q
       go false true p q = sym p ∙ back q
@@ -65,54 +65,54 @@ through g b f (some a) = refl
 
 module _ {N X : Type 0} (L : Lent) (D : Doc N X) (cs : List N) where
   -- BT-5 is the trimmed text of the last InvoiceCurrencyCode, "" where that is blank
-  pub bt5-last : readingOf L D cs .terms .bt5 ≡ maybe none (λ n. some (ownText L D 0 n)) (lastNamed D "InvoiceCurrencyCode" cs)
+  pub bt5-last : readingOf L D cs .terms .bt5 ≡ maybe none (λ n. some (ownText D 0 n)) (lastNamed D "InvoiceCurrencyCode" cs)
   unfolding readingOf termsOf after own quiet kindNamed meant kinds equal bytes encode home sameKind
   bt5-last =
-      lane-last L D invoiceCurrency (record { named = refl; home = refl; read = λ e. true≢false cc; alone = λ e. true≢false cc }) (λ n. some (ownText L D 0 n)) (λ b s cur n. refl) (blank X) cs
+      lane-last L D invoiceCurrency (record { named = refl; home = refl; read = λ e. true≢false cc; alone = λ e. true≢false cc }) (λ n. some (ownText D 0 n)) (λ b s cur n. refl) (blank X) cs
 
   -- BT-6 of the last TaxCurrencyCode, alike
-  pub bt6-last : readingOf L D cs .terms .bt6 ≡ maybe none (λ n. some (ownText L D 0 n)) (lastNamed D "TaxCurrencyCode" cs)
+  pub bt6-last : readingOf L D cs .terms .bt6 ≡ maybe none (λ n. some (ownText D 0 n)) (lastNamed D "TaxCurrencyCode" cs)
   unfolding readingOf termsOf after own quiet kindNamed meant kinds equal bytes encode home sameKind
   bt6-last =
-      lane-last L D taxCurrency (record { named = refl; home = refl; read = λ e. true≢false cc; alone = λ e. true≢false cc }) (λ n. some (ownText L D 0 n)) (λ b s cur n. refl) (blank X) cs
+      lane-last L D taxCurrency (record { named = refl; home = refl; read = λ e. true≢false cc; alone = λ e. true≢false cc }) (λ n. some (ownText D 0 n)) (λ b s cur n. refl) (blank X) cs
 
   -- BT-83 is the trimmed text of the last PaymentReference, absent where that is blank
-  pub bt83-last : readingOf L D cs .terms .bt83 ≡ maybe none (λ n. textIn L D 0 n) (lastNamed D "PaymentReference" cs)
+  pub bt83-last : readingOf L D cs .terms .bt83 ≡ maybe none (λ n. textIn D 0 n) (lastNamed D "PaymentReference" cs)
   unfolding readingOf termsOf after own quiet kindNamed meant kinds equal bytes encode home sameKind
   bt83-last =
-      ap (or none) (lane-last L D paymentReference (record { named = refl; home = refl; read = λ e. true≢false cc; alone = λ e. true≢false cc }) (λ n. some (textIn L D 0 n)) (λ b s cur n. refl) (blank X) cs)
-      ∙ through (or none) none (λ n. some (textIn L D 0 n)) (lastNamed D "PaymentReference" cs)
+      ap (or none) (lane-last L D paymentReference (record { named = refl; home = refl; read = λ e. true≢false cc; alone = λ e. true≢false cc }) (λ n. some (textIn D 0 n)) (λ b s cur n. refl) (blank X) cs)
+      ∙ through (or none) none (λ n. some (textIn D 0 n)) (lastNamed D "PaymentReference" cs)
 
   -- BT-19 is the ID of the last accounting account
-  pub bt19-last : readingOf L D cs .terms .bt19 ≡ maybe none (λ n. kidText L D 0 n "ID") (lastNamed D "ReceivableSpecifiedTradeAccountingAccount" cs)
+  pub bt19-last : readingOf L D cs .terms .bt19 ≡ maybe none (λ n. kidText D 0 n "ID") (lastNamed D "ReceivableSpecifiedTradeAccountingAccount" cs)
   unfolding readingOf termsOf after own quiet kindNamed meant kinds equal bytes encode home sameKind
   bt19-last =
-      lane-last L D accounting (record { named = refl; home = refl; read = λ e. true≢false cc; alone = λ e. true≢false cc }) (λ n. kidText L D 0 n "ID") (λ b s cur n. refl) (blank X) cs
+      lane-last L D accounting (record { named = refl; home = refl; read = λ e. true≢false cc; alone = λ e. true≢false cc }) (λ n. kidText D 0 n "ID") (λ b s cur n. refl) (blank X) cs
 
   -- BG-10 is that of the last payee
-  pub payee-last : readingOf L D cs .terms .payee ≡ maybe none (λ n. some (payeeOf L D n)) (lastNamed D "PayeeTradeParty" cs)
+  pub payee-last : readingOf L D cs .terms .payee ≡ maybe none (λ n. some (payeeOf D n)) (lastNamed D "PayeeTradeParty" cs)
   unfolding readingOf termsOf after own quiet kindNamed meant kinds equal bytes encode home sameKind
   payee-last =
-      lane-last L D payee (record { named = refl; home = refl; read = λ e. true≢false cc; alone = λ e. true≢false cc }) (λ n. some (payeeOf L D n)) (λ b s cur n. refl) (blank X) cs
+      lane-last L D payee (record { named = refl; home = refl; read = λ e. true≢false cc; alone = λ e. true≢false cc }) (λ n. some (payeeOf D n)) (λ b s cur n. refl) (blank X) cs
 
   -- BG-14 is that of the last period
-  pub period-last : readingOf L D cs .terms .period ≡ maybe none (λ n. periodOf L D n .next) (lastNamed D "BillingSpecifiedPeriod" cs)
+  pub period-last : readingOf L D cs .terms .period ≡ maybe none (λ n. periodOf (L .mode) D n .next) (lastNamed D "BillingSpecifiedPeriod" cs)
   unfolding readingOf termsOf after own quiet kindNamed meant kinds equal bytes encode home sameKind
   period-last =
-      lane-last L D period (record { named = refl; home = refl; read = λ e. true≢false cc; alone = λ e. true≢false cc }) (λ n. periodOf L D n .next) (λ b s cur n. refl) (blank X) cs
+      lane-last L D period (record { named = refl; home = refl; read = λ e. true≢false cc; alone = λ e. true≢false cc }) (λ n. periodOf (L .mode) D n .next) (λ b s cur n. refl) (blank X) cs
 
   -- the last payment terms
-  terms-last : after L D cs paymentTerms ≡ maybe (blank X paymentTerms) (λ n. paymentTermsOf L D n .next) (lastNamed D "SpecifiedTradePaymentTerms" cs)
+  terms-last : after L D cs paymentTerms ≡ maybe (blank X paymentTerms) (λ n. paymentTermsOf (L .mode) D n .next) (lastNamed D "SpecifiedTradePaymentTerms" cs)
   unfolding after own kindNamed meant kinds equal bytes encode home sameKind
   terms-last =
-      lane-last L D paymentTerms (record { named = refl; home = refl; read = λ e. true≢false cc; alone = λ e. true≢false cc }) (λ n. paymentTermsOf L D n .next) (λ b s cur n. refl) (blank X) cs
+      lane-last L D paymentTerms (record { named = refl; home = refl; read = λ e. true≢false cc; alone = λ e. true≢false cc }) (λ n. paymentTermsOf (L .mode) D n .next) (λ b s cur n. refl) (blank X) cs
 
   -- BT-20 is their untrimmed description
-  pub bt20-last : readingOf L D cs .terms .bt20 ≡ maybe none (λ n. maybe none (D .text) (kid L D n "Description")) (lastNamed D "SpecifiedTradePaymentTerms" cs)
+  pub bt20-last : readingOf L D cs .terms .bt20 ≡ maybe none (λ n. maybe none (D .text) (kid D n "Description")) (lastNamed D "SpecifiedTradePaymentTerms" cs)
   unfolding readingOf termsOf paymentTermsOf
-  bt20-last = ap (λ (p : PaymentTerms X). p .note) terms-last ∙ through (λ (p : PaymentTerms X). p .note) (blank X paymentTerms) (λ n. paymentTermsOf L D n .next) (lastNamed D "SpecifiedTradePaymentTerms" cs)
+  bt20-last = ap (λ (p : PaymentTerms X). p .note) terms-last ∙ through (λ (p : PaymentTerms X). p .note) (blank X paymentTerms) (λ n. paymentTermsOf (L .mode) D n .next) (lastNamed D "SpecifiedTradePaymentTerms" cs)
 
   -- BT-9 is their due date
-  pub bt9-last : readingOf L D cs .terms .bt9 ≡ maybe none (λ n. paymentTermsOf L D n .next .due) (lastNamed D "SpecifiedTradePaymentTerms" cs)
+  pub bt9-last : readingOf L D cs .terms .bt9 ≡ maybe none (λ n. paymentTermsOf (L .mode) D n .next .due) (lastNamed D "SpecifiedTradePaymentTerms" cs)
   unfolding readingOf termsOf
-  bt9-last = ap (λ (p : PaymentTerms X). p .due) terms-last ∙ through (λ (p : PaymentTerms X). p .due) (blank X paymentTerms) (λ n. paymentTermsOf L D n .next) (lastNamed D "SpecifiedTradePaymentTerms" cs)
+  bt9-last = ap (λ (p : PaymentTerms X). p .due) terms-last ∙ through (λ (p : PaymentTerms X). p .due) (blank X paymentTerms) (λ n. paymentTermsOf (L .mode) D n .next) (lastNamed D "SpecifiedTradePaymentTerms" cs)

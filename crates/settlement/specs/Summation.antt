@@ -2,6 +2,7 @@
 use mathlib.Core.Bool.{Bool, true, false, cond, _&&_}
 use mathlib.Core.List.{List, [], _∷_, _++_, foldl}
 use mathlib.Core.Option.{Option, none, some}
+use Prim.Native.Nat.{ℕ}
 use Prim.Native.String.{String}
 use lib.IntN.{ℤ}
 use Rattle.text.specs.Answer.{Answer}
@@ -52,7 +53,11 @@ abbrev pub isNone : {A : Type 0} → Option A → Bool
 isNone none = true
 isNone (some a) = false
 
-module _ {N X : Type 0} (L : Lent) (D : Doc N X) where
+-- BT-110 and BT-111 after one tax total of amount a
+unfoldable pub withVat : {X : Type 0} → Option ℤ → Option ℤ → List (Entry X) → Summing X → Summing X
+withVat v w es s = record { allowance = s .allowance; charge = s .charge; vat = v; vatAccounting = w; rounded = s .rounded; paid = s .paid; says = s .says ++ es; strays = s .strays }
+
+module _ {N X : Type 0} (D : Doc N X) where
   -- what a child is
   unfoldable pub sumOf : N → Sum
   sumOf c = meant unread sums (D .bytes (D .name c))
@@ -61,28 +66,26 @@ module _ {N X : Type 0} (L : Lent) (D : Doc N X) where
   unfoldable pub isCurrency : Option X → X → Bool
   isCurrency o c = maybe false (λ d. equal (D .bytes d) (D .bytes c)) o
 
-  -- BT-110 and BT-111 after one tax total of amount a
-  unfoldable pub withVat : Option ℤ → Option ℤ → List (Entry X) → Summing X → Summing X
-  withVat v w es s = record { allowance = s .allowance; charge = s .charge; vat = v; vatAccounting = w; rounded = s .rounded; paid = s .paid; says = s .says ++ es; strays = s .strays }
-
   -- in BT-6 it sets BT-111, and BT-110 too if that equals BT-5 and BT-110 is absent; in neither, 17; otherwise it sets BT-110
   unfoldable pub taxIn : Currencies X → Option ℤ → List (Entry X) → Summing X → X → Summing X
   taxIn cur a es s c =
       cond (isCurrency (cur .bt6) c) (withVat (cond (isCurrency (cur .bt5) c && isNone (s .vat)) a (s .vat)) a es s)
       (cond (isCurrency (cur .bt5) c) (withVat a (s .vatAccounting) es s)
-      (withVat (s .vat) (s .vatAccounting) (es ++ (entry L D Message.TaxTotalCurrency (site Path.SummationTaxTotalAmount Term.Bt110) (some c) ∷ [])) s))
+      (withVat (s .vat) (s .vatAccounting) (es ++ (entry Message.TaxTotalCurrency (site Path.SummationTaxTotalAmount Term.Bt110) (some c) ∷ [])) s))
 
+module _ {N X : Type 0} (mode : ℕ) (D : Doc N X) where
   -- 16 where it is unreadable
   unfoldable pub taxRead : N → Answer ℤ → Says X (Option ℤ)
-  taxRead c a = maybe (none, entry L D Message.TaxTotalUnreadable (site Path.SummationTaxTotalAmount Term.None) (some (ownText L D (L .mode) c)) ∷ []) (λ z. (some z, [])) (a .value)
+  taxRead c a = maybe (none, entry Message.TaxTotalUnreadable (site Path.SummationTaxTotalAmount Term.None) (some (ownText D mode c)) ∷ []) (λ z. (some z, [])) (a .value)
 
   -- a tax total's own text as an amount
   unfoldable pub taxAmount : N → Says X (Option ℤ)
-  taxAmount c = taxRead c (parsedAmount (L .mode) (maybe [] (D .bytes) (D .text c)))
+  taxAmount c = taxRead c (parsedAmount mode (maybe [] (D .bytes) (D .text c)))
 
+module _ {N X : Type 0} (L : Lent) (D : Doc N X) where
   -- a tax total without currencyID is BT-110; with one, the currencies read so far decide
   unfoldable pub taxTotalOf : Currencies X → Summing X → N → Summing X
-  taxTotalOf cur s c = let a = taxAmount c in maybe (withVat (a .0) (s .vatAccounting) (a .1) s) (taxIn cur (a .0) (a .1) s) (attribute L D c "currencyID")
+  taxTotalOf cur s c = let a = taxAmount (L .mode) D c in maybe (withVat (a .0) (s .vatAccounting) (a .1) s) (taxIn D cur (a .0) (a .1) s) (attribute D c "currencyID")
 
   -- every child of an optional amount's name reads the first such child again, entry and all
   unfoldable pub summand : Sum → Currencies X → N → Summing X → N → Summing X
@@ -105,7 +108,7 @@ module _ {N X : Type 0} (L : Lent) (D : Doc N X) where
 
   -- one child more
   unfoldable pub summing : Currencies X → N → Summing X → N → Summing X
-  summing cur n s c = summand (sumOf c) cur n s c
+  summing cur n s c = summand (sumOf D c) cur n s c
 
   -- after all children
   unfoldable pub summed : Currencies X → N → Summing X

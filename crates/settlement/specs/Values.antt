@@ -64,11 +64,15 @@ percentMessage n = cond (eqb n 6) Message.NotADecimal Message.TooManyDigits
 unfoldable pub dateMessage : ℕ → Message
 dateMessage n = cond (eqb n 12) Message.NotCcyymmdd Message.NoSuchDay
 
-module _ {N X : Type 0} (L : Lent) (D : Doc N X) where
-  -- an entry at a site
-  unfoldable pub entry : Message → Site → Option X → Entry X
-  entry m s v = record { message = m; path = s .path; term = s .term; index = s .index; value = v }
+-- an entry at a site
+unfoldable pub entry : {X : Type 0} → Message → Site → Option X → Entry X
+entry m s v = record { message = m; path = s .path; term = s .term; index = s .index; value = v }
 
+-- message 9 for a required term, where its rule is in force
+unfoldable pub missing : {X : Type 0} → ℕ → Rule → Site → List (Entry X)
+missing rules r s = cond (inForce rules r) (entry Message.Missing s none ∷ []) []
+
+module _ {N X : Type 0} (D : Doc N X) where
   -- a text as a mode trims it
   unfoldable pub trimIn : ℕ → X → X
   trimIn mode x = D .cut x (trimmed mode (D .bytes x) .start) (trimmed mode (D .bytes x) .end - trimmed mode (D .bytes x) .start)
@@ -102,21 +106,61 @@ module _ {N X : Type 0} (L : Lent) (D : Doc N X) where
   unfoldable pub attribute : N → String → Option X
   attribute n a = maybe none (filled 0) (D .attr n (bytes a))
 
-  -- message 9 for a required term, where its rule is in force
-  unfoldable pub missing : Rule → Site → List (Entry X)
-  missing r s = cond (inForce (L .rules) r) (entry Message.Missing s none ∷ []) []
+  -- message 8 where a type code is present and not VAT
+  unfoldable pub notVat : Site → N → List (Entry X)
+  notVat s n = maybe [] (λ x. cond (Code.vat (D .bytes x)) [] (entry Message.NotVat s (some x) ∷ [])) (kidText 0 n "TypeCode")
 
+-- a required code: absent is message 9 with the group's full path, and the placeholder ""
+unfoldable pub requiredCode : {N X : Type 0} → ℕ → Doc N X → Rule → Site → N → String → Says X X
+requiredCode rules D r s n w = maybe (D .empty, missing rules r s) (λ x. (x, [])) (kidText D 0 n w)
+
+module _ {N X : Type 0} (mode : ℕ) (D : Doc N X) where
   -- what a parse answered: the value, or its message with the text as the mode trims it
   unfoldable pub answered : {A : Type 0} → (ℕ → Message) → Site → X → Answer A → Says X (Option A)
-  answered m s x a = maybe (none, entry (m (a .message)) s (some (trimIn (L .mode) x)) ∷ []) (λ v. (some v, [])) (a .value)
+  answered m s x a = maybe (none, entry (m (a .message)) s (some (trimIn D mode x)) ∷ []) (λ v. (some v, [])) (a .value)
 
+  -- percentage: no text, no entry; then the parse
+  unfoldable pub percentOf : Site → N → Says X (Option (ℤ × ℕ))
+  percentOf s e =
+      maybe (none, []) (λ x. cond (empty (trimOf mode (D .bytes x))) (none, []) (answered percentMessage s x (parsedPercentage mode (D .bytes x)))) (D .text e)
+
+  -- of the first child of a name
+  unfoldable pub percent : Site → N → String → Says X (Option (ℤ × ℕ))
+  percent s n w = maybe (none, []) (percentOf s) (kid D n w)
+
+  -- a date element: format 102 exactly or missing (11), CCYYMMDD (12), a day (13); entries show the text
+  unfoldable pub dateAnswer : Site → N → Answer ℕ → Says X (Option ℕ)
+  dateAnswer s e a = maybe (none, entry (dateMessage (a .message)) s (some (ownText D mode e)) ∷ []) (λ d. (some d, [])) (a .value)
+
+  -- the format comes first
+  unfoldable pub dateFrom : Path → N → Says X (Option ℕ)
+  dateFrom p e =
+      cond (maybe true (λ f. dateFormat (D .bytes f)) (D .attr e (bytes "format")))
+      (dateAnswer (site p Term.None) e (parsedDate mode (maybe [] (D .bytes) (D .text e))))
+      (none, entry Message.DateFormat (site p Term.None) (some (ownText D mode e)) ∷ [])
+
+  -- message 10 for the other spelling, and reading goes on
+  unfoldable pub otherSpelling : Path → N → Says X (Option ℕ)
+  otherSpelling p e = (dateFrom p e .0, entry Message.OtherDateElement (site p Term.None) (some (ownText D mode e)) ∷ dateFrom p e .1)
+
+  -- DateTimeString, else DateString; which of them is the other spelling
+  unfoldable pub dateIn : Bool → Path → Path → N → Says X (Option ℕ)
+  dateIn b p q w =
+      maybe (maybe (none, []) (λ e. cond b (dateFrom q e) (otherSpelling q e)) (kid D w "DateString"))
+      (λ e. cond b (otherSpelling p e) (dateFrom p e)) (kid D w "DateTimeString")
+
+  -- the date in a child: TaxPointDate (b) is a DateString, every other a DateTimeString
+  unfoldable pub date : Bool → Path → Path → N → String → Says X (Option ℕ)
+  date b p q n w = maybe (none, []) (dateIn b p q) (kid D n w)
+
+module _ {N X : Type 0} (L : Lent) (D : Doc N X) where
   -- amount: no text, no entry; then currencyID, 1 then 2; then the parse
   unfoldable pub wrongCurrency : X → Option Message
   wrongCurrency c = cond (listed (D .bytes c)) (cond (empty (L .currency) || equal (L .currency) (D .bytes c)) none (some Message.OtherCurrency)) (some Message.UnlistedCurrency)
 
   -- the amount that a text spells
   unfoldable pub parsed : Site → X → Says X (Option ℤ)
-  parsed s x = answered amountMessage s x (parsedAmount (L .mode) (D .bytes x))
+  parsed s x = answered (L .mode) D amountMessage s x (parsedAmount (L .mode) (D .bytes x))
 
   -- with a currency beside it
   unfoldable pub inCurrency : Site → X → X → Says X (Option ℤ)
@@ -124,7 +168,7 @@ module _ {N X : Type 0} (L : Lent) (D : Doc N X) where
 
   -- with or without one
   unfoldable pub amountFrom : Site → N → X → Says X (Option ℤ)
-  amountFrom s e x = maybe (parsed s x) (inCurrency s x) (attribute e "currencyID")
+  amountFrom s e x = maybe (parsed s x) (inCurrency s x) (attribute D e "currencyID")
 
   -- of an element
   unfoldable pub amountOf : Site → N → Says X (Option ℤ)
@@ -132,51 +176,9 @@ module _ {N X : Type 0} (L : Lent) (D : Doc N X) where
 
   -- of the first child of a name
   unfoldable pub amount : Site → N → String → Says X (Option ℤ)
-  amount s n w = maybe (none, []) (amountOf s) (kid n w)
+  amount s n w = maybe (none, []) (amountOf s) (kid D n w)
 
   -- a required amount: absent is message 9 with the group's full path, failed is 0
   unfoldable pub requiredAmount : Rule → Path → Site → N → String → Says X ℤ
   requiredAmount r p s n w =
-      maybe (pos 0, missing r (record { path = p; term = s .term; index = s .index })) (λ x. (or (pos 0) (amount s n w .0), amount s n w .1)) (kidText (L .mode) n w)
-
-  -- a required code: absent is message 9 with the group's full path, and the placeholder ""
-  unfoldable pub requiredCode : Rule → Site → N → String → Says X X
-  requiredCode r s n w = maybe (D .empty, missing r s) (λ x. (x, [])) (kidText 0 n w)
-
-  -- percentage: no text, no entry; then the parse
-  unfoldable pub percentOf : Site → N → Says X (Option (ℤ × ℕ))
-  percentOf s e =
-      maybe (none, []) (λ x. cond (empty (trimOf (L .mode) (D .bytes x))) (none, []) (answered percentMessage s x (parsedPercentage (L .mode) (D .bytes x)))) (D .text e)
-
-  -- of the first child of a name
-  unfoldable pub percent : Site → N → String → Says X (Option (ℤ × ℕ))
-  percent s n w = maybe (none, []) (percentOf s) (kid n w)
-
-  -- message 8 where a type code is present and not VAT
-  unfoldable pub notVat : Site → N → List (Entry X)
-  notVat s n = maybe [] (λ x. cond (Code.vat (D .bytes x)) [] (entry Message.NotVat s (some x) ∷ [])) (kidText 0 n "TypeCode")
-
-  -- a date element: format 102 exactly or missing (11), CCYYMMDD (12), a day (13); entries show the text
-  unfoldable pub dateAnswer : Site → N → Answer ℕ → Says X (Option ℕ)
-  dateAnswer s e a = maybe (none, entry (dateMessage (a .message)) s (some (ownText (L .mode) e)) ∷ []) (λ d. (some d, [])) (a .value)
-
-  -- the format comes first
-  unfoldable pub dateFrom : Path → N → Says X (Option ℕ)
-  dateFrom p e =
-      cond (maybe true (λ f. dateFormat (D .bytes f)) (D .attr e (bytes "format")))
-      (dateAnswer (site p Term.None) e (parsedDate (L .mode) (maybe [] (D .bytes) (D .text e))))
-      (none, entry Message.DateFormat (site p Term.None) (some (ownText (L .mode) e)) ∷ [])
-
-  -- message 10 for the other spelling, and reading goes on
-  unfoldable pub otherSpelling : Path → N → Says X (Option ℕ)
-  otherSpelling p e = (dateFrom p e .0, entry Message.OtherDateElement (site p Term.None) (some (ownText (L .mode) e)) ∷ dateFrom p e .1)
-
-  -- DateTimeString, else DateString; which of them is the other spelling
-  unfoldable pub dateIn : Bool → Path → Path → N → Says X (Option ℕ)
-  dateIn b p q w =
-      maybe (maybe (none, []) (λ e. cond b (dateFrom q e) (otherSpelling q e)) (kid w "DateString"))
-      (λ e. cond b (otherSpelling p e) (dateFrom p e)) (kid w "DateTimeString")
-
-  -- the date in a child: TaxPointDate (b) is a DateString, every other a DateTimeString
-  unfoldable pub date : Bool → Path → Path → N → String → Says X (Option ℕ)
-  date b p q n w = maybe (none, []) (dateIn b p q) (kid n w)
+      maybe (pos 0, missing (L .rules) r (record { path = p; term = s .term; index = s .index })) (λ x. (or (pos 0) (amount s n w .0), amount s n w .1)) (kidText D (L .mode) n w)
