@@ -84,10 +84,10 @@ module _ {N X : Type 0} (L : Lent) (D : Doc N X) (cs : List N) where
       ∙ through (or none) none (λ n. some (textIn D 0 n)) (lastNamed D "PaymentReference" cs)
 
   -- BT-19 is the ID of the last accounting account
-  pub bt19-last : readingOf L D cs .terms .bt19 ≡ maybe none (λ n. kidText D 0 n "ID") (lastNamed D "ReceivableSpecifiedTradeAccountingAccount" cs)
+  pub bt19-last : readingOf L D cs .terms .bt19 ≡ maybe none (λ n. kidText D 0 n (bytes "ID")) (lastNamed D "ReceivableSpecifiedTradeAccountingAccount" cs)
   unfolding readingOf termsOf after own quiet kindNamed meant kinds equal bytes encode home sameKind
   bt19-last =
-      lane-last L D accounting (record { named = refl; home = refl; read = λ e. true≢false cc; alone = λ e. true≢false cc }) (λ n. kidText D 0 n "ID") (λ b s cur n. refl) (blank X) cs
+      lane-last L D accounting (record { named = refl; home = refl; read = λ e. true≢false cc; alone = λ e. true≢false cc }) (λ n. kidText D 0 n (bytes "ID")) (λ b s cur n. refl) (blank X) cs
 
   -- BG-10 is that of the last payee
   pub payee-last : readingOf L D cs .terms .payee ≡ maybe none (λ n. some (payeeOf D n)) (lastNamed D "PayeeTradeParty" cs)
@@ -108,7 +108,7 @@ module _ {N X : Type 0} (L : Lent) (D : Doc N X) (cs : List N) where
       lane-last L D paymentTerms (record { named = refl; home = refl; read = λ e. true≢false cc; alone = λ e. true≢false cc }) (λ n. paymentTermsOf (L .mode) D n .next) (λ b s cur n. refl) (blank X) cs
 
   -- BT-20 is their untrimmed description
-  pub bt20-last : readingOf L D cs .terms .bt20 ≡ maybe none (λ n. maybe none (D .text) (kid D n "Description")) (lastNamed D "SpecifiedTradePaymentTerms" cs)
+  pub bt20-last : readingOf L D cs .terms .bt20 ≡ maybe none (λ n. maybe none (D .text) (kid D n (bytes "Description"))) (lastNamed D "SpecifiedTradePaymentTerms" cs)
   unfolding readingOf termsOf paymentTermsOf
   bt20-last = ap (λ (p : PaymentTerms X). p .note) terms-last ∙ through (λ (p : PaymentTerms X). p .note) (blank X paymentTerms) (λ n. paymentTermsOf (L .mode) D n .next) (lastNamed D "SpecifiedTradePaymentTerms" cs)
 

@@ -7,6 +7,7 @@ use Prim.Native.Nat.{ℕ, Ordering, Ordering·lt, Ordering·eq, Ordering·gt}
 use Prim.Native.String.{String}
 use lib.IntN.{ℤ}
 use Rattle.text.specs.Answer.{Answer}
+use Rattle.text.specs.Utf8.{bytes}
 use Rattle.codes.specs.declared.rules.Rule.{Rule}
 use Rattle.report.specs.Rows.{Entry, Transfer, AllowanceCharge, Unmapped, mapEntry, mapTransfer, mapVat, mapAllowanceCharge, mapPreceding, mapHeld, mapUnmapped}
 use Rattle.report.specs.declared.message.Message.{Message}
@@ -78,15 +79,15 @@ module _ {N M X Y : Type 0} (L : Lent) (D : Doc N X) (E : Doc M Y) (h : N → M)
   first-n w [] = refl
   first-n w (c ∷ cs) = rw (first-n w cs) (simp (maps, H .name, H .bytes))
 
-  kid-n : (n : N) (w : String) → kid E (h n) w ≡ Option·map h (kid D n w)
+  kid-n : (n : N) (w : List ℕ) → kid E (h n) w ≡ Option·map h (kid D n w)
   unfolding kid
   kid-n n w = simp (H .kids, first-n)
 
-  kidText-n : (mode : ℕ) (n : N) (w : String) → kidText E mode (h n) w ≡ Option·map v (kidText D mode n w)
+  kidText-n : (mode : ℕ) (n : N) (w : List ℕ) → kidText E mode (h n) w ≡ Option·map v (kidText D mode n w)
   unfolding kidText
   kidText-n mode n w = simp (maps, kid-n, textIn-n)
 
-  attribute-n : (n : N) (a : String) → attribute E (h n) a ≡ Option·map v (attribute D n a)
+  attribute-n : (n : N) (a : List ℕ) → attribute E (h n) a ≡ Option·map v (attribute D n a)
   unfolding attribute
   attribute-n n a = simp (maps, H .attr, filled-n)
 
@@ -118,15 +119,15 @@ module _ {N M X Y : Type 0} (L : Lent) (D : Doc N X) (E : Doc M Y) (h : N → M)
   unfolding amountOf
   amountOf-n s e = simp (maps, H .text, H .bytes, amountFrom-n)
 
-  amount-n : (s : Site) (n : N) (w : String) → amount L E s (h n) w ≡ mapSays v (amount L D s n w)
+  amount-n : (s : Site) (n : N) (w : List ℕ) → amount L E s (h n) w ≡ mapSays v (amount L D s n w)
   unfolding amount
   amount-n s n w = simp (maps, kid-n, amountOf-n)
 
-  requiredAmount-n : (r : Rule) (p : Path) (s : Site) (n : N) (w : String) → requiredAmount L E r p s (h n) w ≡ mapSays v (requiredAmount L D r p s n w)
+  requiredAmount-n : (r : Rule) (p : Path) (s : Site) (n : N) (w : List ℕ) → requiredAmount L E r p s (h n) w ≡ mapSays v (requiredAmount L D r p s n w)
   unfolding requiredAmount
   requiredAmount-n r p s n w = simp (maps, kidText-n, amount-n, missing-n)
 
-  requiredCode-n : (r : Rule) (s : Site) (n : N) (w : String) → requiredCode (L .rules) E r s (h n) w ≡ mapBoth v v (requiredCode (L .rules) D r s n w)
+  requiredCode-n : (r : Rule) (s : Site) (n : N) (w : List ℕ) → requiredCode (L .rules) E r s (h n) w ≡ mapBoth v v (requiredCode (L .rules) D r s n w)
   unfolding requiredCode
   requiredCode-n r s n w = simp (maps, kidText-n, H .empty, missing-n, both-maybe v v, both-pair v v)
 
@@ -134,7 +135,7 @@ module _ {N M X Y : Type 0} (L : Lent) (D : Doc N X) (E : Doc M Y) (h : N → M)
   unfolding percentOf
   percentOf-n s e = simp (maps, H .text, H .bytes, answered-n)
 
-  percent-n : (s : Site) (n : N) (w : String) → percent (L .mode) E s (h n) w ≡ mapSays v (percent (L .mode) D s n w)
+  percent-n : (s : Site) (n : N) (w : List ℕ) → percent (L .mode) E s (h n) w ≡ mapSays v (percent (L .mode) D s n w)
   unfolding percent
   percent-n s n w = simp (maps, kid-n, percentOf-n)
 
@@ -158,7 +159,7 @@ module _ {N M X Y : Type 0} (L : Lent) (D : Doc N X) (E : Doc M Y) (h : N → M)
   unfolding dateIn
   dateIn-n b p q e = simp (maps, kid-n, dateFrom-n, otherSpelling-n)
 
-  date-n : (b : Bool) (p q : Path) (n : N) (w : String) → date (L .mode) E b p q (h n) w ≡ mapSays v (date (L .mode) D b p q n w)
+  date-n : (b : Bool) (p q : Path) (n : N) (w : List ℕ) → date (L .mode) E b p q (h n) w ≡ mapSays v (date (L .mode) D b p q n w)
   unfolding date
   date-n b p q n w = simp (maps, kid-n, dateIn-n)
 
@@ -194,7 +195,7 @@ module _ {N M X Y : Type 0} (L : Lent) (D : Doc N X) (E : Doc M Y) (h : N → M)
   unfolding categoryIn
   categoryIn-n p t g n = simp (maps, requiredCode-n, percent-n, notVat-n, both-0 v v, both-1 v v, both-pair v inFront)
 
-  categoryOf-n : (p : TaxPaths) (t : GroupTerms) (g : ℕ) (n : N) (w : String) → categoryOf L E p t g (h n) w ≡ mapBoth v inFront (categoryOf L D p t g n w)
+  categoryOf-n : (p : TaxPaths) (t : GroupTerms) (g : ℕ) (n : N) (w : List ℕ) → categoryOf L E p t g (h n) w ≡ mapBoth v inFront (categoryOf L D p t g n w)
   unfolding categoryOf
   categoryOf-n p t g n w = simp (maps, kid-n, H .empty, missing-n, categoryIn-n, both-maybe v inFront, both-pair v inFront)
 
@@ -274,10 +275,10 @@ module _ {N M X Y : Type 0} (L : Lent) (D : Doc N X) (E : Doc M Y) (h : N → M)
   part-n typeCode s c = simp (ownText-n, ← orElse-map)
   part-n information s c = simp (maps, textIn-n)
   part-n financialCard s c =
-      simp kidText-n (firstMeans-n (s .payment .means) Message.CardBesideOther Path.PaymentMeansFinancialCard (card (kidText D 0 c "ID") (kidText D 0 c "CardholderName")) s)
+      simp kidText-n (firstMeans-n (s .payment .means) Message.CardBesideOther Path.PaymentMeansFinancialCard (card (kidText D 0 c (bytes "ID")) (kidText D 0 c (bytes "CardholderName"))) s)
   part-n debtorAccount s c = simp accountOf-n (firstMeans-n (s .payment .means) Message.DebitedAccountBesideOther Path.PaymentMeansDebtorAccount (debit (accountOf D c)) s)
   part-n creditorAccount s c = creditor-n (s .payment .means) c s
-  part-n institution s c = simp kidText-n (providerOf-n (s .last) (s .rows) (kidText D 0 c "BICID") s)
+  part-n institution s c = simp kidText-n (providerOf-n (s .last) (s .rows) (kidText D 0 c (bytes "BICID")) s)
   part-n unknown s c = simp (maps, H .name)
 
   partOf-n : (c : N) → partOf E (h c) ≡ partOf D c

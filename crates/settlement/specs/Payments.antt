@@ -3,6 +3,7 @@ use mathlib.Core.Bool.{Bool, true, false}
 use mathlib.Core.List.{List, [], _∷_, _++_, map, foldl}
 use mathlib.Core.Option.{Option, none, some}
 use Prim.Native.String.{String}
+use Rattle.text.specs.Utf8.{bytes}
 use Rattle.report.specs.Rows.{Entry, Transfer, transfer, Unmapped}
 use Rattle.report.specs.declared.message.Message.{Message}
 use Rattle.report.specs.declared.message.Message.the-variants as Message
@@ -79,7 +80,7 @@ module _ {N X : Type 0} (D : Doc N X) where
 
   -- an account is IBANID, else (also where that is blank) ProprietaryID
   unfoldable pub accountOf : N → Option X
-  accountOf c = orElse (kidText D 0 c "IBANID") (kidText D 0 c "ProprietaryID")
+  accountOf c = orElse (kidText D 0 c (bytes "IBANID")) (kidText D 0 c (bytes "ProprietaryID"))
 
   -- an account that is held: BT-84, BT-85
   unfoldable pub joined : N → Paying X → Paying X
@@ -87,7 +88,7 @@ module _ {N X : Type 0} (D : Doc N X) where
       record {
         payment = record { met = true; code = s .payment .code; text = s .payment .text; means = transfers };
         last = true;
-        rows = s .rows ++ (record { account = accountOf c; name = kidText D 0 c "AccountName"; provider = none } ∷ []);
+        rows = s .rows ++ (record { account = accountOf c; name = kidText D 0 c (bytes "AccountName"); provider = none } ∷ []);
         says = s .says;
         strays = s .strays;
       }
@@ -105,10 +106,10 @@ module _ {N X : Type 0} (D : Doc N X) where
       record { payment = record { met = true; code = orElse (s .payment .code) (some (ownText D 0 c)); text = s .payment .text; means = s .payment .means }; last = s .last; rows = s .rows; says = s .says; strays = s .strays }
   part information s c =
       record { payment = record { met = true; code = s .payment .code; text = orElse (s .payment .text) (textIn D 0 c); means = s .payment .means }; last = s .last; rows = s .rows; says = s .says; strays = s .strays }
-  part financialCard s c = firstMeans (s .payment .means) Message.CardBesideOther Path.PaymentMeansFinancialCard (card (kidText D 0 c "ID") (kidText D 0 c "CardholderName")) s
+  part financialCard s c = firstMeans (s .payment .means) Message.CardBesideOther Path.PaymentMeansFinancialCard (card (kidText D 0 c (bytes "ID")) (kidText D 0 c (bytes "CardholderName"))) s
   part debtorAccount s c = firstMeans (s .payment .means) Message.DebitedAccountBesideOther Path.PaymentMeansDebtorAccount (debit (accountOf c)) s
   part creditorAccount s c = creditor (s .payment .means) c s
-  part institution s c = providerOf (s .last) (s .rows) (kidText D 0 c "BICID") s
+  part institution s c = providerOf (s .last) (s .rows) (kidText D 0 c (bytes "BICID")) s
   part unknown s c = record { payment = s .payment; last = s .last; rows = s .rows; says = s .says; strays = s .strays ++ (record { parent = Parent.PaymentMeans; name = D .name c } ∷ []) }
 
   -- one child more

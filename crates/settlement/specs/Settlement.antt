@@ -34,9 +34,9 @@ module _ {N X : Type 0} (D : Doc N X) where
   unfoldable pub payeeOf : N → Payee X
   payeeOf n =
       record {
-        name = kidText D 0 n "Name";
-        identifier = maybe none (λ e. some (identifierOf e)) (orElse (kid D n "GlobalID") (kid D n "ID"));
-        legal = maybe none (λ o. maybe none (λ e. some (identifierOf e)) (kid D o "ID")) (kid D n "SpecifiedLegalOrganization");
+        name = kidText D 0 n (bytes "Name");
+        identifier = maybe none (λ e. some (identifierOf e)) (orElse (kid D n (bytes "GlobalID")) (kid D n (bytes "ID")));
+        legal = maybe none (λ o. maybe none (λ e. some (identifierOf e)) (kid D o (bytes "ID"))) (kid D n (bytes "SpecifiedLegalOrganization"));
       }
 
   -- the kind of a child
@@ -55,16 +55,16 @@ module _ {N X : Type 0} (mode : ℕ) (D : Doc N X) where
   -- BG-14: both dates, of the last element
   unfoldable pub periodOf : N → Act X (Option Period)
   periodOf n =
-      let a = date mode D false Path.PeriodStartDateTimeString Path.PeriodStartDateString n "StartDateTime" in
-      let b = date mode D false Path.PeriodEndDateTimeString Path.PeriodEndDateString n "EndDateTime" in
+      let a = date mode D false Path.PeriodStartDateTimeString Path.PeriodStartDateString n (bytes "StartDateTime") in
+      let b = date mode D false Path.PeriodEndDateTimeString Path.PeriodEndDateString n (bytes "EndDateTime") in
       record { next = some (record { start = a .0; end = b .0 }); says = a .1 ++ b .1; holds = []; strays = [] }
 
   -- BT-20 untrimmed, due date, mandate; each later element overwrites all three
   unfoldable pub paymentTermsOf : N → Act X (PaymentTerms X)
   paymentTermsOf n =
-      let d = date mode D false Path.PaymentTermsDueDateTimeString Path.PaymentTermsDueDateString n "DueDateDateTime" in
+      let d = date mode D false Path.PaymentTermsDueDateTimeString Path.PaymentTermsDueDateString n (bytes "DueDateDateTime") in
       record {
-        next = record { note = maybe none (D .text) (kid D n "Description"); due = d .0; mandate = kidText D 0 n "DirectDebitMandateID" };
+        next = record { note = maybe none (D .text) (kid D n (bytes "Description")); due = d .0; mandate = kidText D 0 n (bytes "DirectDebitMandateID") };
         says = d .1;
         holds = [];
         strays = [];
@@ -150,8 +150,8 @@ module _ {N X : Type 0} (L : Lent) (D : Doc N X) where
   -- BG-3: reference, date
   unfoldable pub precedingOf : ℕ → N → Act X ℕ
   precedingOf g n =
-      let r = requiredCode (L .rules) D Rule.Br55 (grouped Path.SettlementInvoiceReferencedDocument Term.Bt25 g) n "IssuerAssignedID" in
-      let d = date (L .mode) D false Path.ReferencedDocumentIssueDateTimeString Path.ReferencedDocumentIssueDateString n "FormattedIssueDateTime" in
+      let r = requiredCode (L .rules) D Rule.Br55 (grouped Path.SettlementInvoiceReferencedDocument Term.Bt25 g) n (bytes "IssuerAssignedID") in
+      let d = date (L .mode) D false Path.ReferencedDocumentIssueDateTimeString Path.ReferencedDocumentIssueDateString n (bytes "FormattedIssueDateTime") in
       record { next = suc g; says = r .1 ++ d .1; holds = preceding (record { reference = r .0; date = d .0 }) ∷ []; strays = [] }
 
   -- what a child does to the lane l, its home
@@ -169,7 +169,7 @@ module _ {N X : Type 0} (L : Lent) (D : Doc N X) where
   own paymentTerms b s cur n = paymentTermsOf (L .mode) D n
   own summation b s cur n = totals L D cur n
   own precedingInvoice b s cur n = precedingOf s n
-  own accounting b s cur n = quiet (kidText D 0 n "ID")
+  own accounting b s cur n = quiet (kidText D 0 n (bytes "ID"))
   own other b s cur n = record { next = tt; says = []; holds = []; strays = record { parent = Parent.Settlement; name = D .name n } ∷ [] }
 
   -- what a child does on a lane

@@ -7,6 +7,7 @@ use Prim.Native.String.{String}
 use lib.IntN.{ℤ}
 use Rattle.text.specs.Answer.{Answer}
 use Rattle.text.specs.Order.{equal}
+use Rattle.text.specs.Utf8.{bytes}
 use Rattle.amount.specs.Amount.{parsedAmount}
 use Rattle.codes.specs.declared.rules.Rule.the-variants as Rule
 use Rattle.report.specs.Rows.{Entry, Unmapped}
@@ -85,23 +86,23 @@ module _ {N X : Type 0} (mode : ℕ) (D : Doc N X) where
 module _ {N X : Type 0} (L : Lent) (D : Doc N X) where
   -- a tax total without currencyID is BT-110; with one, the currencies read so far decide
   unfoldable pub taxTotalOf : Currencies X → Summing X → N → Summing X
-  taxTotalOf cur s c = let a = taxAmount (L .mode) D c in maybe (withVat (a .0) (s .vatAccounting) (a .1) s) (taxIn D cur (a .0) (a .1) s) (attribute D c "currencyID")
+  taxTotalOf cur s c = let a = taxAmount (L .mode) D c in maybe (withVat (a .0) (s .vatAccounting) (a .1) s) (taxIn D cur (a .0) (a .1) s) (attribute D c (bytes "currencyID"))
 
   -- every child of an optional amount's name reads the first such child again, entry and all
   unfoldable pub summand : Sum → Currencies X → N → Summing X → N → Summing X
   summand required cur n s c = s
   summand allowanceTotal cur n s c =
-      let a = amount L D (site Path.SummationAllowanceTotalAmount Term.Bt107) n "AllowanceTotalAmount" in
+      let a = amount L D (site Path.SummationAllowanceTotalAmount Term.Bt107) n (bytes "AllowanceTotalAmount") in
       record { allowance = a .0; charge = s .charge; vat = s .vat; vatAccounting = s .vatAccounting; rounded = s .rounded; paid = s .paid; says = s .says ++ a .1; strays = s .strays }
   summand chargeTotal cur n s c =
-      let a = amount L D (site Path.SummationChargeTotalAmount Term.Bt108) n "ChargeTotalAmount" in
+      let a = amount L D (site Path.SummationChargeTotalAmount Term.Bt108) n (bytes "ChargeTotalAmount") in
       record { allowance = s .allowance; charge = a .0; vat = s .vat; vatAccounting = s .vatAccounting; rounded = s .rounded; paid = s .paid; says = s .says ++ a .1; strays = s .strays }
   summand taxTotal cur n s c = taxTotalOf cur s c
   summand rounding cur n s c =
-      let a = amount L D (site Path.SummationRoundingAmount Term.Bt114) n "RoundingAmount" in
+      let a = amount L D (site Path.SummationRoundingAmount Term.Bt114) n (bytes "RoundingAmount") in
       record { allowance = s .allowance; charge = s .charge; vat = s .vat; vatAccounting = s .vatAccounting; rounded = a .0; paid = s .paid; says = s .says ++ a .1; strays = s .strays }
   summand prepaid cur n s c =
-      let a = amount L D (site Path.SummationTotalPrepaidAmount Term.Bt113) n "TotalPrepaidAmount" in
+      let a = amount L D (site Path.SummationTotalPrepaidAmount Term.Bt113) n (bytes "TotalPrepaidAmount") in
       record { allowance = s .allowance; charge = s .charge; vat = s .vat; vatAccounting = s .vatAccounting; rounded = s .rounded; paid = a .0; says = s .says ++ a .1; strays = s .strays }
   summand unread cur n s c =
       record { allowance = s .allowance; charge = s .charge; vat = s .vat; vatAccounting = s .vatAccounting; rounded = s .rounded; paid = s .paid; says = s .says; strays = s .strays ++ (record { parent = Parent.MonetarySummation; name = D .name c } ∷ []) }
@@ -119,10 +120,10 @@ module _ {N X : Type 0} (L : Lent) (D : Doc N X) where
   unfoldable pub totals : Currencies X → N → Act X (Option Totals)
   totals cur n =
       let s = summed cur n in
-      let a = requiredAmount L D Rule.Br12 Path.SettlementSummation (site Path.SummationLineTotalAmount Term.Bt106) n "LineTotalAmount" in
-      let b = requiredAmount L D Rule.Br13 Path.SettlementSummation (site Path.SummationTaxBasisTotalAmount Term.Bt109) n "TaxBasisTotalAmount" in
-      let c = requiredAmount L D Rule.Br14 Path.SettlementSummation (site Path.SummationGrandTotalAmount Term.Bt112) n "GrandTotalAmount" in
-      let d = requiredAmount L D Rule.Br15 Path.SettlementSummation (site Path.SummationDuePayableAmount Term.Bt115) n "DuePayableAmount" in
+      let a = requiredAmount L D Rule.Br12 Path.SettlementSummation (site Path.SummationLineTotalAmount Term.Bt106) n (bytes "LineTotalAmount") in
+      let b = requiredAmount L D Rule.Br13 Path.SettlementSummation (site Path.SummationTaxBasisTotalAmount Term.Bt109) n (bytes "TaxBasisTotalAmount") in
+      let c = requiredAmount L D Rule.Br14 Path.SettlementSummation (site Path.SummationGrandTotalAmount Term.Bt112) n (bytes "GrandTotalAmount") in
+      let d = requiredAmount L D Rule.Br15 Path.SettlementSummation (site Path.SummationDuePayableAmount Term.Bt115) n (bytes "DuePayableAmount") in
       record {
         next =
             some

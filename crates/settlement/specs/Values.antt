@@ -3,7 +3,6 @@ use mathlib.Core.Bool.{Bool, true, cond, _||_}
 use mathlib.Core.List.{List, [], _∷_}
 use mathlib.Core.Option.{Option, none, some}
 use Prim.Native.Nat.{ℕ, _-_}
-use Prim.Native.String.{String}
 use lib.Dec.{eqb}
 use lib.IntN.{ℤ, pos}
 use Rattle.text.specs.Answer.{Answer}
@@ -89,29 +88,29 @@ module _ {N X : Type 0} (D : Doc N X) where
   unfoldable pub ownText : ℕ → N → X
   ownText mode n = or (D .empty) (textIn mode n)
 
-  -- the first child of a name
+  -- the first of a name
   unfoldable pub first : List ℕ → List N → Option N
   first w [] = none
   first w (c ∷ cs) = cond (equal (D .bytes (D .name c)) w) (some c) (first w cs)
 
-  -- the same by its spelling
-  unfoldable pub kid : N → String → Option N
-  kid n w = first (bytes w) (D .kids n)
+  -- the first child of a name
+  unfoldable pub kid : N → List ℕ → Option N
+  kid n w = first w (D .kids n)
 
   -- its text
-  unfoldable pub kidText : ℕ → N → String → Option X
+  unfoldable pub kidText : ℕ → N → List ℕ → Option X
   kidText mode n w = maybe none (textIn mode) (kid n w)
 
   -- an attribute, trimmed, empty being none
-  unfoldable pub attribute : N → String → Option X
-  attribute n a = maybe none (filled 0) (D .attr n (bytes a))
+  unfoldable pub attribute : N → List ℕ → Option X
+  attribute n a = maybe none (filled 0) (D .attr n a)
 
   -- message 8 where a type code is present and not VAT
   unfoldable pub notVat : Site → N → List (Entry X)
-  notVat s n = maybe [] (λ x. cond (Code.vat (D .bytes x)) [] (entry Message.NotVat s (some x) ∷ [])) (kidText 0 n "TypeCode")
+  notVat s n = maybe [] (λ x. cond (Code.vat (D .bytes x)) [] (entry Message.NotVat s (some x) ∷ [])) (kidText 0 n (bytes "TypeCode"))
 
 -- a required code: absent is message 9 with the group's full path, and the placeholder ""
-unfoldable pub requiredCode : {N X : Type 0} → ℕ → Doc N X → Rule → Site → N → String → Says X X
+unfoldable pub requiredCode : {N X : Type 0} → ℕ → Doc N X → Rule → Site → N → List ℕ → Says X X
 requiredCode rules D r s n w = maybe (D .empty, missing rules r s) (λ x. (x, [])) (kidText D 0 n w)
 
 module _ {N X : Type 0} (mode : ℕ) (D : Doc N X) where
@@ -125,7 +124,7 @@ module _ {N X : Type 0} (mode : ℕ) (D : Doc N X) where
       maybe (none, []) (λ x. cond (empty (trimOf mode (D .bytes x))) (none, []) (answered percentMessage s x (parsedPercentage mode (D .bytes x)))) (D .text e)
 
   -- of the first child of a name
-  unfoldable pub percent : Site → N → String → Says X (Option (ℤ × ℕ))
+  unfoldable pub percent : Site → N → List ℕ → Says X (Option (ℤ × ℕ))
   percent s n w = maybe (none, []) (percentOf s) (kid D n w)
 
   -- a date element: format 102 exactly or missing (11), CCYYMMDD (12), a day (13); entries show the text
@@ -146,11 +145,11 @@ module _ {N X : Type 0} (mode : ℕ) (D : Doc N X) where
   -- DateTimeString, else DateString; which of them is the other spelling
   unfoldable pub dateIn : Bool → Path → Path → N → Says X (Option ℕ)
   dateIn b p q w =
-      maybe (maybe (none, []) (λ e. cond b (dateFrom q e) (otherSpelling q e)) (kid D w "DateString"))
-      (λ e. cond b (otherSpelling p e) (dateFrom p e)) (kid D w "DateTimeString")
+      maybe (maybe (none, []) (λ e. cond b (dateFrom q e) (otherSpelling q e)) (kid D w (bytes "DateString")))
+      (λ e. cond b (otherSpelling p e) (dateFrom p e)) (kid D w (bytes "DateTimeString"))
 
   -- the date in a child: TaxPointDate (b) is a DateString, every other a DateTimeString
-  unfoldable pub date : Bool → Path → Path → N → String → Says X (Option ℕ)
+  unfoldable pub date : Bool → Path → Path → N → List ℕ → Says X (Option ℕ)
   date b p q n w = maybe (none, []) (dateIn b p q) (kid D n w)
 
 module _ {N X : Type 0} (L : Lent) (D : Doc N X) where
@@ -168,17 +167,17 @@ module _ {N X : Type 0} (L : Lent) (D : Doc N X) where
 
   -- with or without one
   unfoldable pub amountFrom : Site → N → X → Says X (Option ℤ)
-  amountFrom s e x = maybe (parsed s x) (inCurrency s x) (attribute D e "currencyID")
+  amountFrom s e x = maybe (parsed s x) (inCurrency s x) (attribute D e (bytes "currencyID"))
 
   -- of an element
   unfoldable pub amountOf : Site → N → Says X (Option ℤ)
   amountOf s e = maybe (none, []) (λ x. cond (empty (trimOf (L .mode) (D .bytes x))) (none, []) (amountFrom s e x)) (D .text e)
 
   -- of the first child of a name
-  unfoldable pub amount : Site → N → String → Says X (Option ℤ)
+  unfoldable pub amount : Site → N → List ℕ → Says X (Option ℤ)
   amount s n w = maybe (none, []) (amountOf s) (kid D n w)
 
   -- a required amount: absent is message 9 with the group's full path, failed is 0
-  unfoldable pub requiredAmount : Rule → Path → Site → N → String → Says X ℤ
+  unfoldable pub requiredAmount : Rule → Path → Site → N → List ℕ → Says X ℤ
   requiredAmount r p s n w =
       maybe (pos 0, missing (L .rules) r (record { path = p; term = s .term; index = s .index })) (λ x. (or (pos 0) (amount s n w .0), amount s n w .1)) (kidText D (L .mode) n w)
