@@ -24,10 +24,10 @@ use Rattle.report.specs.declared.path.Path.the-variants as Path
 use Rattle.report.specs.declared.term.Term.the-variants as Term
 use Rattle.settlement.specs.Kinds.{sameKind, home, meant, kinds, kindNamed}
 use Rattle.settlement.specs.Shapes.{transfers, noTotals}
-use Rattle.settlement.specs.Values.{Lent, entry, trimIn, filled, textIn, ownText, first, kid, kidText, attribute, missing, requiredAmount, requiredCode, percent, notVat, amount, date}
+use Rattle.settlement.specs.Values.{Lent, entry, trimIn, filled, textIn, ownText, textBytes, first, kid, kidText, attribute, missing, answered, requiredAmount, requiredCode, percent, notVat, amount, date}
 use Rattle.settlement.specs.Tax.{pointDate, freshCode, pointCode, tradeTaxOf}
 use Rattle.settlement.specs.Payments.{parts, partOf, accountOf, joined, creditor, part, paying, payingStart, paid, paymentMeansOf}
-use Rattle.settlement.specs.Summation.{sums, sumOf, isCurrency, withVat, taxIn, taxRead, taxAmount, taxTotalOf, summand, summing, summed, totals}
+use Rattle.settlement.specs.Summation.{sums, sumOf, isCurrency, withVat, taxIn, taxAmount, taxTotalOf, summand, summing, summed, totals}
 use Rattle.settlement.specs.Walk.{said, insert, insertAll}
 use Rattle.settlement.specs.Settlement.{quiet, own, kindOf, soFar, unseen, seen, act, step, saysOf, holdsOf, straysOf, besides, debited, debitOf, lateOf, termsOf, after, readingOf, reading}
 use Rattle.settlement.specs.Tree.{Tree, node, nothing, forest, treeDoc}
@@ -79,19 +79,19 @@ pub account-and-foo : reading lent treeDoc (settlement (leaf "InvoiceCurrencyCod
       entries = [];
       unmapped = record { parent = Parent.Settlement; name = bytes "Foo" } ∷ [];
     }
-unfolding cut equal bytes encode utf8 chars front charOf two three four tail scalar allGood within inRanges whiteSpaces whiteSpace white allWhite before through keptOf trimmed trimOf sameKind home meant kinds kindNamed trimIn filled textIn ownText first kid kidText missing bit inForce parts partOf accountOf joined creditor part paying payingStart paid paymentMeansOf said insert insertAll quiet own kindOf soFar unseen seen act step saysOf holdsOf straysOf besides debited debitOf lateOf termsOf after readingOf reading treeDoc
+unfolding cut equal bytes encode utf8 chars front charOf two three four tail scalar allGood within inRanges whiteSpaces whiteSpace white allWhite before through keptOf trimmed trimOf sameKind home meant kinds kindNamed trimIn filled textIn ownText textBytes first kid kidText missing bit inForce parts partOf accountOf joined creditor part paying payingStart paid paymentMeansOf said insert insertAll quiet own kindOf soFar unseen seen act step saysOf holdsOf straysOf besides debited debitOf lateOf termsOf after readingOf reading treeDoc
 account-and-foo = refl
 
 -- BT-5 and BT-6 EUR, tax totals 10.00 and 12.00 in EUR: 1000 and 1200
 pub two-tax-totals :
     (reading lent treeDoc (settlement (leaf "InvoiceCurrencyCode" "EUR" ∷ leaf "TaxCurrencyCode" "EUR" ∷ branch "SpecifiedTradeSettlementHeaderMonetarySummation" (inEuro "TaxTotalAmount" "10.00" ∷ inEuro "TaxTotalAmount" "12.00" ∷ []) ∷ [])) .terms .totals) ≡
     record { line = pos 0; allowance = none; charge = none; taxable = pos 0; vat = some (pos 1000); vatAccounting = some (pos 1200); gross = pos 0; paid = none; rounding = none; due = pos 0 }
-unfolding cut equal bytes encode utf8 chars front charOf two three four tail scalar allGood within inRanges whiteSpaces whiteSpace white allWhite before through keptOf trimmed trimOf digit allDigits number negative unsigned digitsOf pastDigits pointed pastPoint whole fraction decimal signed hundredths inRange amountOf parsedAmount sameKind home meant kinds kindNamed trimIn filled textIn ownText first kid kidText attribute missing requiredAmount bit inForce sums sumOf isCurrency withVat taxIn taxRead taxAmount taxTotalOf summand summing summed totals quiet own kindOf soFar unseen seen act step termsOf after readingOf reading treeDoc
+unfolding cut equal bytes encode utf8 chars front charOf two three four tail scalar allGood within inRanges whiteSpaces whiteSpace white allWhite before through keptOf trimmed trimOf digit allDigits number negative unsigned digitsOf pastDigits pointed pastPoint whole fraction decimal signed hundredths inRange amountOf parsedAmount sameKind home meant kinds kindNamed trimIn filled textIn ownText textBytes first kid kidText attribute missing requiredAmount bit inForce sums sumOf isCurrency withVat taxIn taxAmount taxTotalOf summand summing summed totals quiet own kindOf soFar unseen seen act step termsOf after readingOf reading treeDoc answered
 two-tax-totals = refl
 
 -- VAT point date code 3 is the model's and not CII's: message 15, and no BT-8
 pub code-3 :
     (reading lent treeDoc (settlement (branch "ApplicableTradeTax" (leaf "DueDateTypeCode" "3" ∷ []) ∷ [])) .entries) ≡
     record { message = Message.UnknownVatPointCode; path = Path.TradeTaxDueDateTypeCode; term = Term.Bt8; index = none; value = some (bytes "3") } ∷ []
-unfolding cut equal bytes encode utf8 chars front charOf two three four tail scalar allGood within inRanges whiteSpaces whiteSpace white allWhite before through keptOf trimmed trimOf meaning vatPointDateCodes vatPointDateCodeOf sameKind home meant kinds kindNamed entry trimIn filled textIn ownText first kid kidText missing requiredAmount requiredCode percent notVat amount date bit inForce pointDate freshCode pointCode tradeTaxOf said quiet own kindOf soFar unseen seen act step saysOf debited debitOf lateOf after readingOf reading treeDoc
+unfolding cut equal bytes encode utf8 chars front charOf two three four tail scalar allGood within inRanges whiteSpaces whiteSpace white allWhite before through keptOf trimmed trimOf meaning vatPointDateCodes vatPointDateCodeOf sameKind home meant kinds kindNamed entry trimIn filled textIn ownText textBytes first kid kidText missing requiredAmount requiredCode percent notVat amount date bit inForce pointDate freshCode pointCode tradeTaxOf said quiet own kindOf soFar unseen seen act step saysOf debited debitOf lateOf after readingOf reading treeDoc
 code-3 = refl

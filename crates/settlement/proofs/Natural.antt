@@ -16,10 +16,10 @@ use Rattle.report.specs.declared.path.Path.{Path}
 use Rattle.report.specs.declared.path.Path.the-variants as Path
 use Rattle.settlement.specs.Document.{Doc, maybe, or}
 use Rattle.settlement.specs.Shapes.{Means, unset, card, debit, transfers, Payment, VatState, Counts, Of, State, blank, Act, Currencies}
-use Rattle.settlement.specs.Values.{Lent, Site, entry, trimIn, filled, textIn, ownText, first, kid, kidText, attribute, missing, answered, wrongCurrency, parsed, inCurrency, amountFrom, amountOf, amount, requiredAmount, requiredCode, percentOf, percent, notVat, dateAnswer, dateFrom, otherSpelling, dateIn, date}
+use Rattle.settlement.specs.Values.{Lent, Site, entry, trimIn, filled, textIn, ownText, textBytes, first, kid, kidText, attribute, missing, answered, wrongCurrency, parsed, inCurrency, amountFrom, amountOf, amount, requiredAmount, requiredCode, percentOf, percent, notVat, dateFrom, otherSpelling, dateIn, date}
 use Rattle.settlement.specs.Tax.{TaxPaths, GroupTerms, pointDate, freshCode, againCode, pointCode, tradeTaxOf, categoryIn, categoryOf, indicated, indicator, isCharge, allowanceChargeOf, allowanceOrCharge, logisticsRead, logisticsLeft, logistics}
 use Rattle.settlement.specs.Payments.{Part, typeCode, information, financialCard, debtorAccount, creditorAccount, institution, unknown, Paying, partOf, notHeld, withMeans, firstMeans, accountOf, joined, lost, creditor, providerOf, part, paying, payingStart, paid, paymentMeansOf}
-use Rattle.settlement.specs.Summation.{Sum, required, allowanceTotal, chargeTotal, taxTotal, rounding, prepaid, unread, Summing, sumOf, isCurrency, withVat, taxIn, taxRead, taxAmount, taxTotalOf, summand, summing, summed, totals}
+use Rattle.settlement.specs.Summation.{Sum, required, allowanceTotal, chargeTotal, taxTotal, rounding, prepaid, unread, Summing, sumOf, isCurrency, withVat, taxIn, taxAmount, taxTotalOf, summand, summing, summed, totals}
 use Rattle.settlement.specs.Walk.{said, placed, insert, insertAll}
 use Rattle.settlement.specs.Settlement.{Debit, identifierOf, payeeOf, quiet, periodOf, paymentTermsOf, precedingOf, own, kindOf, soFar, unseen, seen, act, step, saysOf, holdsOf, straysOf, besides, debited, debitOf, lateOf, termsOf, unmappedKey, unmappedOrder, after, readingOf, reading}
 use Rattle.settlement.specs.Kinds.{Kind, creditorReference, paymentReference, taxCurrency, invoiceCurrency, payee, paymentMeans, tradeTax, period, allowanceCharge, logisticsCharge, paymentTerms, summation, precedingInvoice, accounting, other, sameKind, home}
@@ -95,29 +95,33 @@ module _ {N M X Y : Type 0} (L : Lent) (D : Doc N X) (E : Doc M Y) (h : N → M)
   unfolding missing
   missing-n r s = simp (maps, entry-n)
 
-  answered-n : {A : Type 0} (m : ℕ → Message) (s : Site) (x : X) (a : Answer A) → answered (L .mode) E m s (v x) a ≡ mapSays v (answered (L .mode) D m s x a)
+  textBytes-n : (n : N) → textBytes E (h n) ≡ textBytes D n
+  unfolding textBytes
+  textBytes-n n = simp (maps, H .text, H .bytes)
+
+  answered-n : {A : Type 0} (m : ℕ → Message) (s : Site) (e : N) (a : Answer A) → answered (L .mode) E m s (h e) a ≡ mapSays v (answered (L .mode) D m s e a)
   unfolding answered
-  answered-n m s x a = simp (maps, entry-n, trimIn-n)
+  answered-n m s e a = simp (maps, entry-n, ownText-n)
 
   wrongCurrency-n : (c : X) → wrongCurrency L E (v c) ≡ wrongCurrency L D c
   unfolding wrongCurrency
   wrongCurrency-n c = simp (H .bytes)
 
-  parsed-n : (s : Site) (x : X) → parsed L E s (v x) ≡ mapSays v (parsed L D s x)
+  parsed-n : (s : Site) (e : N) → parsed L E s (h e) ≡ mapSays v (parsed L D s e)
   unfolding parsed
-  parsed-n s x = simp (H .bytes, answered-n)
+  parsed-n s e = simp (textBytes-n, answered-n)
 
-  inCurrency-n : (s : Site) (x c : X) → inCurrency L E s (v x) (v c) ≡ mapSays v (inCurrency L D s x c)
+  inCurrency-n : (s : Site) (e : N) (c : X) → inCurrency L E s (h e) (v c) ≡ mapSays v (inCurrency L D s e c)
   unfolding inCurrency
-  inCurrency-n s x c = simp (maps, wrongCurrency-n, parsed-n, entry-n)
+  inCurrency-n s e c = simp (maps, wrongCurrency-n, parsed-n, entry-n)
 
-  amountFrom-n : (s : Site) (e : N) (x : X) → amountFrom L E s (h e) (v x) ≡ mapSays v (amountFrom L D s e x)
+  amountFrom-n : (s : Site) (e : N) → amountFrom L E s (h e) ≡ mapSays v (amountFrom L D s e)
   unfolding amountFrom
-  amountFrom-n s e x = simp (maps, attribute-n, parsed-n, inCurrency-n)
+  amountFrom-n s e = simp (maps, attribute-n, parsed-n, inCurrency-n)
 
   amountOf-n : (s : Site) (e : N) → amountOf L E s (h e) ≡ mapSays v (amountOf L D s e)
   unfolding amountOf
-  amountOf-n s e = simp (maps, H .text, H .bytes, amountFrom-n)
+  amountOf-n s e = simp (maps, textIn-n, amountFrom-n)
 
   amount-n : (s : Site) (n : N) (w : List ℕ) → amount L E s (h n) w ≡ mapSays v (amount L D s n w)
   unfolding amount
@@ -133,7 +137,7 @@ module _ {N M X Y : Type 0} (L : Lent) (D : Doc N X) (E : Doc M Y) (h : N → M)
 
   percentOf-n : (s : Site) (e : N) → percentOf (L .mode) E s (h e) ≡ mapSays v (percentOf (L .mode) D s e)
   unfolding percentOf
-  percentOf-n s e = simp (maps, H .text, H .bytes, answered-n)
+  percentOf-n s e = simp (maps, textIn-n, textBytes-n, answered-n)
 
   percent-n : (s : Site) (n : N) (w : List ℕ) → percent (L .mode) E s (h n) w ≡ mapSays v (percent (L .mode) D s n w)
   unfolding percent
@@ -143,13 +147,9 @@ module _ {N M X Y : Type 0} (L : Lent) (D : Doc N X) (E : Doc M Y) (h : N → M)
   unfolding notVat
   notVat-n s n = simp (maps, kidText-n, H .bytes, entry-n)
 
-  dateAnswer-n : (s : Site) (e : N) (a : Answer ℕ) → dateAnswer (L .mode) E s (h e) a ≡ mapSays v (dateAnswer (L .mode) D s e a)
-  unfolding dateAnswer
-  dateAnswer-n s e a = simp (maps, ownText-n, entry-n)
-
   dateFrom-n : (p : Path) (e : N) → dateFrom (L .mode) E p (h e) ≡ mapSays v (dateFrom (L .mode) D p e)
   unfolding dateFrom
-  dateFrom-n p e = simp (maps, H .attr, H .text, H .bytes, dateAnswer-n, ownText-n, entry-n)
+  dateFrom-n p e = simp (maps, H .attr, H .bytes, textBytes-n, answered-n, ownText-n, entry-n)
 
   otherSpelling-n : (p : Path) (e : N) → otherSpelling (L .mode) E p (h e) ≡ mapSays v (otherSpelling (L .mode) D p e)
   unfolding otherSpelling
@@ -314,13 +314,9 @@ module _ {N M X Y : Type 0} (L : Lent) (D : Doc N X) (E : Doc M Y) (h : N → M)
   unfolding taxIn withVat mapCurrencies mapSumming
   taxIn-n cur a es s c = simp (maps, isCurrency-n, entry-n)
 
-  taxRead-n : (c : N) (a : Answer ℤ) → taxRead (L .mode) E (h c) a ≡ mapSays v (taxRead (L .mode) D c a)
-  unfolding taxRead
-  taxRead-n c a = simp (maps, ownText-n, entry-n)
-
   taxAmount-n : (c : N) → taxAmount (L .mode) E (h c) ≡ mapSays v (taxAmount (L .mode) D c)
   unfolding taxAmount
-  taxAmount-n c = simp (maps, H .text, H .bytes, taxRead-n)
+  taxAmount-n c = simp (textBytes-n, answered-n)
 
   withVat-n : (a b : Option ℤ) (es : List (Entry X)) (s : Summing X) → withVat a b (map (mapEntry v) es) (mapSumming v s) ≡ mapSumming v (withVat a b es s)
   unfolding withVat mapSumming

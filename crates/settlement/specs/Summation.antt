@@ -5,7 +5,6 @@ use mathlib.Core.Option.{Option, none, some}
 use Prim.Native.Nat.{ℕ}
 use Prim.Native.String.{String}
 use lib.IntN.{ℤ}
-use Rattle.text.specs.Answer.{Answer}
 use Rattle.text.specs.Order.{equal}
 use Rattle.text.specs.Utf8.{bytes}
 use Rattle.amount.specs.Amount.{parsedAmount}
@@ -18,7 +17,7 @@ use Rattle.report.specs.declared.term.Term.the-variants as Term
 use Rattle.settlement.specs.Document.{Doc, maybe}
 use Rattle.settlement.specs.Kinds.{meant}
 use Rattle.settlement.specs.Shapes.{Totals, Currencies, Act}
-use Rattle.settlement.specs.Values.{Lent, site, Says, entry, ownText, attribute, amount, requiredAmount}
+use Rattle.settlement.specs.Values.{Lent, site, Says, entry, textBytes, answered, attribute, amount, requiredAmount}
 
 -- the children of a summation: those that are read once after all others, the optional amounts, tax totals
 pub data Sum : Type 0 where
@@ -74,14 +73,9 @@ module _ {N X : Type 0} (D : Doc N X) where
       (cond (isCurrency (cur .bt5) c) (withVat a (s .vatAccounting) es s)
       (withVat (s .vat) (s .vatAccounting) (es ++ (entry Message.TaxTotalCurrency (site Path.SummationTaxTotalAmount Term.Bt110) (some c) ∷ [])) s))
 
-module _ {N X : Type 0} (mode : ℕ) (D : Doc N X) where
-  -- 16 where it is unreadable
-  unfoldable pub taxRead : N → Answer ℤ → Says X (Option ℤ)
-  taxRead c a = maybe (none, entry Message.TaxTotalUnreadable (site Path.SummationTaxTotalAmount Term.None) (some (ownText D mode c)) ∷ []) (λ z. (some z, [])) (a .value)
-
-  -- a tax total's own text as an amount
-  unfoldable pub taxAmount : N → Says X (Option ℤ)
-  taxAmount c = taxRead c (parsedAmount mode (maybe [] (D .bytes) (D .text c)))
+-- a tax total's own text as an amount; 16 where it is unreadable
+unfoldable pub taxAmount : {N X : Type 0} → ℕ → Doc N X → N → Says X (Option ℤ)
+taxAmount mode D c = answered mode D (λ n. Message.TaxTotalUnreadable) (site Path.SummationTaxTotalAmount Term.None) c (parsedAmount mode (textBytes D c))
 
 module _ {N X : Type 0} (L : Lent) (D : Doc N X) where
   -- a tax total without currencyID is BT-110; with one, the currencies read so far decide

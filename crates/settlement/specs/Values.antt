@@ -53,15 +53,15 @@ Says X A = A × List (Entry X)
 
 -- the messages of document 01's numbers: amounts 3, 4, 5; percentages 6, 7; dates 12, 13
 unfoldable pub amountMessage : ℕ → Message
-amountMessage n = cond (eqb n 3) Message.AmountMalformed (cond (eqb n 4) Message.TooManyDecimals Message.AmountOutOfRange)
+amountMessage n = cond (eqb n 4) Message.TooManyDecimals (cond (eqb n 5) Message.AmountOutOfRange Message.AmountMalformed)
 
 -- of a percentage
 unfoldable pub percentMessage : ℕ → Message
-percentMessage n = cond (eqb n 6) Message.NotADecimal Message.TooManyDigits
+percentMessage n = cond (eqb n 7) Message.TooManyDigits Message.NotADecimal
 
 -- of a date
 unfoldable pub dateMessage : ℕ → Message
-dateMessage n = cond (eqb n 12) Message.NotCcyymmdd Message.NoSuchDay
+dateMessage n = cond (eqb n 13) Message.NoSuchDay Message.NotCcyymmdd
 
 -- an entry at a site
 unfoldable pub entry : {X : Type 0} → Message → Site → Option X → Entry X
@@ -87,6 +87,10 @@ module _ {N X : Type 0} (D : Doc N X) where
   -- the same, kept as "" where it is blank
   unfoldable pub ownText : ℕ → N → X
   ownText mode n = or (D .empty) (textIn mode n)
+
+  -- its bytes, untrimmed
+  unfoldable pub textBytes : N → List ℕ
+  textBytes n = maybe [] (D .bytes) (D .text n)
 
   -- the first of a name
   unfoldable pub first : List ℕ → List N → Option N
@@ -114,28 +118,23 @@ unfoldable pub requiredCode : {N X : Type 0} → ℕ → Doc N X → Rule → Si
 requiredCode rules D r s n w = maybe (D .empty, missing rules r s) (λ x. (x, [])) (kidText D 0 n w)
 
 module _ {N X : Type 0} (mode : ℕ) (D : Doc N X) where
-  -- what a parse answered: the value, or its message with the text as the mode trims it
-  unfoldable pub answered : {A : Type 0} → (ℕ → Message) → Site → X → Answer A → Says X (Option A)
-  answered m s x a = maybe (none, entry (m (a .message)) s (some (trimIn D mode x)) ∷ []) (λ v. (some v, [])) (a .value)
+  -- what the parse of an element's text answered: the value, or its message with the text as the mode trims it
+  unfoldable pub answered : {A : Type 0} → (ℕ → Message) → Site → N → Answer A → Says X (Option A)
+  answered m s e a = maybe (none, entry (m (a .message)) s (some (ownText D mode e)) ∷ []) (λ v. (some v, [])) (a .value)
 
   -- percentage: no text, no entry; then the parse
   unfoldable pub percentOf : Site → N → Says X (Option (ℤ × ℕ))
-  percentOf s e =
-      maybe (none, []) (λ x. cond (empty (trimOf mode (D .bytes x))) (none, []) (answered percentMessage s x (parsedPercentage mode (D .bytes x)))) (D .text e)
+  percentOf s e = maybe (none, []) (λ x. answered percentMessage s e (parsedPercentage mode (textBytes D e))) (textIn D mode e)
 
   -- of the first child of a name
   unfoldable pub percent : Site → N → List ℕ → Says X (Option (ℤ × ℕ))
   percent s n w = maybe (none, []) (percentOf s) (kid D n w)
 
   -- a date element: format 102 exactly or missing (11), CCYYMMDD (12), a day (13); entries show the text
-  unfoldable pub dateAnswer : Site → N → Answer ℕ → Says X (Option ℕ)
-  dateAnswer s e a = maybe (none, entry (dateMessage (a .message)) s (some (ownText D mode e)) ∷ []) (λ d. (some d, [])) (a .value)
-
-  -- the format comes first
   unfoldable pub dateFrom : Path → N → Says X (Option ℕ)
   dateFrom p e =
       cond (maybe true (λ f. dateFormat (D .bytes f)) (D .attr e (bytes "format")))
-      (dateAnswer (site p Term.None) e (parsedDate mode (maybe [] (D .bytes) (D .text e))))
+      (answered dateMessage (site p Term.None) e (parsedDate mode (textBytes D e)))
       (none, entry Message.DateFormat (site p Term.None) (some (ownText D mode e)) ∷ [])
 
   -- message 10 for the other spelling, and reading goes on
@@ -153,25 +152,25 @@ module _ {N X : Type 0} (mode : ℕ) (D : Doc N X) where
   date b p q n w = maybe (none, []) (dateIn b p q) (kid D n w)
 
 module _ {N X : Type 0} (L : Lent) (D : Doc N X) where
-  -- amount: no text, no entry; then currencyID, 1 then 2; then the parse
+  -- what is wrong with a currencyID: not listed (1), or not the invoice currency (2)
   unfoldable pub wrongCurrency : X → Option Message
   wrongCurrency c = cond (listed (D .bytes c)) (cond (empty (L .currency) || equal (L .currency) (D .bytes c)) none (some Message.OtherCurrency)) (some Message.UnlistedCurrency)
 
-  -- the amount that a text spells
-  unfoldable pub parsed : Site → X → Says X (Option ℤ)
-  parsed s x = answered (L .mode) D amountMessage s x (parsedAmount (L .mode) (D .bytes x))
+  -- the amount that an element's text spells
+  unfoldable pub parsed : Site → N → Says X (Option ℤ)
+  parsed s e = answered (L .mode) D amountMessage s e (parsedAmount (L .mode) (textBytes D e))
 
   -- with a currency beside it
-  unfoldable pub inCurrency : Site → X → X → Says X (Option ℤ)
-  inCurrency s x c = maybe (parsed s x) (λ m. (none, entry m s (some c) ∷ [])) (wrongCurrency c)
+  unfoldable pub inCurrency : Site → N → X → Says X (Option ℤ)
+  inCurrency s e c = maybe (parsed s e) (λ m. (none, entry m s (some c) ∷ [])) (wrongCurrency c)
 
   -- with or without one
-  unfoldable pub amountFrom : Site → N → X → Says X (Option ℤ)
-  amountFrom s e x = maybe (parsed s x) (inCurrency s x) (attribute D e (bytes "currencyID"))
+  unfoldable pub amountFrom : Site → N → Says X (Option ℤ)
+  amountFrom s e = maybe (parsed s e) (inCurrency s e) (attribute D e (bytes "currencyID"))
 
-  -- of an element
+  -- amount: no text, no entry; then currencyID; then the parse
   unfoldable pub amountOf : Site → N → Says X (Option ℤ)
-  amountOf s e = maybe (none, []) (λ x. cond (empty (trimOf (L .mode) (D .bytes x))) (none, []) (amountFrom s e x)) (D .text e)
+  amountOf s e = maybe (none, []) (λ x. amountFrom s e) (textIn D (L .mode) e)
 
   -- of the first child of a name
   unfoldable pub amount : Site → N → List ℕ → Says X (Option ℤ)
