@@ -4,7 +4,7 @@ use mathlib.Core.List.{List}
 use mathlib.Core.Option.{Option, none, some}
 use Prim.Native.Nat.{ℕ, _+_, _-_, min}
 use lib.Dec.{eqb}
-use lib.ListN.{take, drop}
+use Rattle.text.specs.Span.{clipped}
 use Rattle.table.specs.Table.{cell, kids, attribute}
 use Rattle.report.specs.Rows.{Place}
 use Rattle.settlement.specs.Document.{Doc, maybe}
@@ -23,7 +23,7 @@ ownTextAt t r = cond (eqb (cell t r 5) 0) none (some (textAt t r))
 
 -- the bytes that a place of the text shows
 unfoldable pub shows : List ℕ → Place → List ℕ
-shows x p = take (p .len) (drop (p .start) x)
+shows x p = clipped x (p .start) (p .len)
 
 -- the document of a table and its text
 unfoldable pub tableDoc : List ℕ → List ℕ → Doc ℕ Place

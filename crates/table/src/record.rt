@@ -73,7 +73,7 @@ pub fn name<'a, 'b>(table: &'b [u32], text: &'a [u8], r: usize) -> &'a [u8]
 {
     let start = field_at(table, r, Field::NameStart);
     let len = field_at(table, r, Field::NameLength);
-    text::part(text, start, len)
+    text::clip(text, start, len)
 }
 
 // The text of record r: an attribute's value, or all direct text of an element, joined.
@@ -82,7 +82,7 @@ pub fn joined_text<'a, 'b>(table: &'b [u32], text: &'a [u8], r: usize) -> &'a [u
 {
     let start = field_at(table, r, Field::TextStart);
     let len = field_at(table, r, Field::TextLength);
-    text::part(text, start, len)
+    text::clip(text, start, len)
 }
 
 // Whether record r has this name.
