@@ -11,7 +11,7 @@ use Rattle.text.specs.Span.{clipped}
 use Rattle.text.specs.Span.{cut as cutAt}
 use Rattle.text.specs.Utf8.{encode, bytes, tail, scalar, two, three, four, charOf, front, chars, allGood, utf8}
 use Rattle.codes.specs.Rules.{bit, inForce}
-use Rattle.table.specs.Table.{nameOf, textOf, named, kin, below, kids, firstOf, firstNamed, attribute}
+use Rattle.table.specs.Table.{nameOf, textOf, named, kin, below, kids, attrs, firstOf}
 use Rattle.table.specs.Refusals.{ragged, oversized, notRoot, misplaced, beyond, outside, notUtf8, notSettlement, firstFrom, recordRefusal, sizeRefusal, refusal}
 use Rattle.report.specs.Message.{messageNumber}
 use Rattle.report.specs.Rows.{Place, Entry}
@@ -84,7 +84,7 @@ different e = absurd (let h : _≡_ {A = ℕ} 65 83 = head e in omega arith)
 
 -- the trees differ by an exchange of the two children
 pub witness : Exchanged treeDoc (treeOf left-table left-text 0) (treeOf right-table right-text 0)
-unfolding left-table left-text right-table right-text treeDoc treeOf tree element tableDoc ownTextAt shows clipped kids below kin attribute firstNamed firstOf bytes encode
+unfolding left-table left-text right-table right-text treeDoc treeOf tree element tableDoc ownTextAt shows clipped kids below kin attrs named firstOf bytes encode
 witness = record { pre = []; x = treeOf left-table left-text 2; y = treeOf left-table left-text 3; post = []; left = refl; right = refl; names = different; allowed = free }
 
 -- the messages of a reading, in order
