@@ -16,7 +16,7 @@ use Rattle.report.specs.declared.path.Path.{Path}
 use Rattle.report.specs.declared.path.Path.the-variants as Path
 use Rattle.settlement.specs.Document.{Doc, maybe, or}
 use Rattle.settlement.specs.Shapes.{Means, unset, card, debit, transfers, Payment, VatState, Counts, Of, State, blank, Act, Currencies}
-use Rattle.settlement.specs.Values.{Lent, Site, entry, trimIn, filled, textIn, ownText, textBytes, first, kid, kidText, attribute, missing, answered, wrongCurrency, parsed, inCurrency, amountFrom, amountOf, amount, requiredAmount, requiredCode, percentOf, percent, notVat, dateFrom, otherSpelling, dateIn, date}
+use Rattle.settlement.specs.Values.{Lent, Site, entry, trimIn, filled, textIn, ownText, textBytes, first, kid, kidText, attribute, missing, answered, parsed, inCurrency, amountFrom, amountOf, amount, requiredAmount, requiredCode, percentOf, percent, notVat, dateFrom, otherSpelling, dateIn, date}
 use Rattle.settlement.specs.Tax.{TaxPaths, GroupTerms, pointDate, freshCode, againCode, pointCode, tradeTaxOf, categoryIn, categoryOf, indicated, indicator, isCharge, allowanceChargeOf, allowanceOrCharge, logisticsRead, logisticsLeft, logistics}
 use Rattle.settlement.specs.Payments.{Part, typeCode, information, financialCard, debtorAccount, creditorAccount, institution, unknown, Paying, partOf, notHeld, withMeans, firstMeans, accountOf, joined, lost, creditor, providerOf, part, paying, payingStart, paid, paymentMeansOf}
 use Rattle.settlement.specs.Summation.{Sum, required, allowanceTotal, chargeTotal, taxTotal, rounding, prepaid, unread, Summing, sumOf, isCurrency, withVat, taxIn, taxAmount, taxTotalOf, summand, summing, summed, totals}
@@ -103,27 +103,23 @@ module _ {N M X Y : Type 0} (L : Lent) (D : Doc N X) (E : Doc M Y) (h : N → M)
   unfolding answered
   answered-n m s e a = simp (maps, entry-n, ownText-n)
 
-  wrongCurrency-n : (c : X) → wrongCurrency L E (v c) ≡ wrongCurrency L D c
-  unfolding wrongCurrency
-  wrongCurrency-n c = simp (H .bytes)
-
-  parsed-n : (s : Site) (e : N) → parsed L E s (h e) ≡ mapSays v (parsed L D s e)
+  parsed-n : (s : Site) (e : N) → parsed (L .mode) E s (h e) ≡ mapSays v (parsed (L .mode) D s e)
   unfolding parsed
   parsed-n s e = simp (textBytes-n, answered-n)
 
-  inCurrency-n : (s : Site) (e : N) (c : X) → inCurrency L E s (h e) (v c) ≡ mapSays v (inCurrency L D s e c)
+  inCurrency-n : (s : Site) (e : N) (c : X) → inCurrency (L .mode) (L .currency) E s (h e) (v c) ≡ mapSays v (inCurrency (L .mode) (L .currency) D s e c)
   unfolding inCurrency
-  inCurrency-n s e c = simp (maps, wrongCurrency-n, parsed-n, entry-n)
+  inCurrency-n s e c = simp (maps, H .bytes, parsed-n, entry-n)
 
-  amountFrom-n : (s : Site) (e : N) → amountFrom L E s (h e) ≡ mapSays v (amountFrom L D s e)
+  amountFrom-n : (s : Site) (e : N) → amountFrom (L .mode) (L .currency) E s (h e) ≡ mapSays v (amountFrom (L .mode) (L .currency) D s e)
   unfolding amountFrom
   amountFrom-n s e = simp (maps, attribute-n, parsed-n, inCurrency-n)
 
-  amountOf-n : (s : Site) (e : N) → amountOf L E s (h e) ≡ mapSays v (amountOf L D s e)
+  amountOf-n : (s : Site) (e : N) → amountOf (L .mode) (L .currency) E s (h e) ≡ mapSays v (amountOf (L .mode) (L .currency) D s e)
   unfolding amountOf
   amountOf-n s e = simp (maps, textIn-n, amountFrom-n)
 
-  amount-n : (s : Site) (n : N) (w : List ℕ) → amount L E s (h n) w ≡ mapSays v (amount L D s n w)
+  amount-n : (s : Site) (n : N) (w : List ℕ) → amount (L .mode) (L .currency) E s (h n) w ≡ mapSays v (amount (L .mode) (L .currency) D s n w)
   unfolding amount
   amount-n s n w = simp (maps, kid-n, amountOf-n)
 

@@ -86,17 +86,17 @@ module _ {N X : Type 0} (L : Lent) (D : Doc N X) where
   unfoldable pub summand : Sum → Currencies X → N → Summing X → N → Summing X
   summand required cur n s c = s
   summand allowanceTotal cur n s c =
-      let a = amount L D (site Path.SummationAllowanceTotalAmount Term.Bt107) n (bytes "AllowanceTotalAmount") in
+      let a = amount (L .mode) (L .currency) D (site Path.SummationAllowanceTotalAmount Term.Bt107) n (bytes "AllowanceTotalAmount") in
       record { allowance = a .0; charge = s .charge; vat = s .vat; vatAccounting = s .vatAccounting; rounded = s .rounded; paid = s .paid; says = s .says ++ a .1; strays = s .strays }
   summand chargeTotal cur n s c =
-      let a = amount L D (site Path.SummationChargeTotalAmount Term.Bt108) n (bytes "ChargeTotalAmount") in
+      let a = amount (L .mode) (L .currency) D (site Path.SummationChargeTotalAmount Term.Bt108) n (bytes "ChargeTotalAmount") in
       record { allowance = s .allowance; charge = a .0; vat = s .vat; vatAccounting = s .vatAccounting; rounded = s .rounded; paid = s .paid; says = s .says ++ a .1; strays = s .strays }
   summand taxTotal cur n s c = taxTotalOf cur s c
   summand rounding cur n s c =
-      let a = amount L D (site Path.SummationRoundingAmount Term.Bt114) n (bytes "RoundingAmount") in
+      let a = amount (L .mode) (L .currency) D (site Path.SummationRoundingAmount Term.Bt114) n (bytes "RoundingAmount") in
       record { allowance = s .allowance; charge = s .charge; vat = s .vat; vatAccounting = s .vatAccounting; rounded = a .0; paid = s .paid; says = s .says ++ a .1; strays = s .strays }
   summand prepaid cur n s c =
-      let a = amount L D (site Path.SummationTotalPrepaidAmount Term.Bt113) n (bytes "TotalPrepaidAmount") in
+      let a = amount (L .mode) (L .currency) D (site Path.SummationTotalPrepaidAmount Term.Bt113) n (bytes "TotalPrepaidAmount") in
       record { allowance = s .allowance; charge = s .charge; vat = s .vat; vatAccounting = s .vatAccounting; rounded = s .rounded; paid = a .0; says = s .says ++ a .1; strays = s .strays }
   summand unread cur n s c =
       record { allowance = s .allowance; charge = s .charge; vat = s .vat; vatAccounting = s .vatAccounting; rounded = s .rounded; paid = s .paid; says = s .says; strays = s .strays ++ (record { parent = Parent.MonetarySummation; name = D .name c } ∷ []) }

@@ -130,7 +130,7 @@ module _ {N X : Type 0} (L : Lent) (D : Doc N X) where
       let t = groupTerms b in
       let v = categoryOf categoryPaths t g n (bytes "CategoryTradeTax") in
       let a = requiredAmount L D (t .amountRule) Path.SettlementAllowanceCharge (grouped Path.AllowanceChargeActualAmount (t .amount) g) n (bytes "ActualAmount") in
-      let m = amount L D (grouped Path.AllowanceChargeBasisAmount (t .base) g) n (bytes "BasisAmount") in
+      let m = amount (L .mode) (L .currency) D (grouped Path.AllowanceChargeBasisAmount (t .base) g) n (bytes "BasisAmount") in
       let p = percent (L .mode) D (grouped Path.AllowanceChargeCalculationPercent (t .percentage) g) n (bytes "CalculationPercent") in (
         cond b charge allowance
             (record { amount = a .0; base = m .0; percentage = p .0; category = v .0 .0; rate = v .0 .1; reason = kidText D 0 n (bytes "Reason"); code = kidText D 0 n (bytes "ReasonCode") }),

@@ -151,32 +151,33 @@ module _ {N X : Type 0} (mode : ℕ) (D : Doc N X) where
   unfoldable pub date : Bool → Path → Path → N → List ℕ → Says X (Option ℕ)
   date b p q n w = maybe (none, []) (dateIn b p q) (kid D n w)
 
-module _ {N X : Type 0} (L : Lent) (D : Doc N X) where
-  -- what is wrong with a currencyID: not listed (1), or not the invoice currency (2)
-  unfoldable pub wrongCurrency : X → Option Message
-  wrongCurrency c = cond (listed (D .bytes c)) (cond (empty (L .currency) || equal (L .currency) (D .bytes c)) none (some Message.OtherCurrency)) (some Message.UnlistedCurrency)
+-- the amount that an element's text spells
+unfoldable pub parsed : {N X : Type 0} → ℕ → Doc N X → Site → N → Says X (Option ℤ)
+parsed mode D s e = answered mode D amountMessage s e (parsedAmount mode (textBytes D e))
 
-  -- the amount that an element's text spells
-  unfoldable pub parsed : Site → N → Says X (Option ℤ)
-  parsed s e = answered (L .mode) D amountMessage s e (parsedAmount (L .mode) (textBytes D e))
+-- what is wrong with a currencyID beside an invoice currency: it is not listed (1), or another (2)
+unfoldable pub wrongCurrency : List ℕ → List ℕ → Option Message
+wrongCurrency currency c = cond (listed c) (cond (empty currency || equal currency c) none (some Message.OtherCurrency)) (some Message.UnlistedCurrency)
 
-  -- with a currency beside it
+module _ {N X : Type 0} (mode : ℕ) (currency : List ℕ) (D : Doc N X) where
+  -- an amount with a currency beside it
   unfoldable pub inCurrency : Site → N → X → Says X (Option ℤ)
-  inCurrency s e c = maybe (parsed s e) (λ m. (none, entry m s (some c) ∷ [])) (wrongCurrency c)
+  inCurrency s e c = maybe (parsed mode D s e) (λ m. (none, entry m s (some c) ∷ [])) (wrongCurrency currency (D .bytes c))
 
   -- with or without one
   unfoldable pub amountFrom : Site → N → Says X (Option ℤ)
-  amountFrom s e = maybe (parsed s e) (inCurrency s e) (attribute D e (bytes "currencyID"))
+  amountFrom s e = maybe (parsed mode D s e) (inCurrency s e) (attribute D e (bytes "currencyID"))
 
   -- amount: no text, no entry; then currencyID; then the parse
   unfoldable pub amountOf : Site → N → Says X (Option ℤ)
-  amountOf s e = maybe (none, []) (λ x. amountFrom s e) (textIn D (L .mode) e)
+  amountOf s e = maybe (none, []) (λ x. amountFrom s e) (textIn D mode e)
 
   -- of the first child of a name
   unfoldable pub amount : Site → N → List ℕ → Says X (Option ℤ)
   amount s n w = maybe (none, []) (amountOf s) (kid D n w)
 
-  -- a required amount: absent is message 9 with the group's full path, failed is 0
-  unfoldable pub requiredAmount : Rule → Path → Site → N → List ℕ → Says X ℤ
-  requiredAmount r p s n w =
-      maybe (pos 0, missing (L .rules) r (record { path = p; term = s .term; index = s .index })) (λ x. (or (pos 0) (amount s n w .0), amount s n w .1)) (kidText D (L .mode) n w)
+-- a required amount: absent is message 9 with the group's full path, failed is 0
+unfoldable pub requiredAmount : {N X : Type 0} → Lent → Doc N X → Rule → Path → Site → N → List ℕ → Says X ℤ
+requiredAmount L D r p s n w =
+    maybe (pos 0, missing (L .rules) r (record { path = p; term = s .term; index = s .index }))
+    (λ x. (or (pos 0) (amount (L .mode) (L .currency) D s n w .0), amount (L .mode) (L .currency) D s n w .1)) (kidText D (L .mode) n w)
