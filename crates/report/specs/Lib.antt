@@ -1,4 +1,5 @@
 pub mod Put
+pub mod Placed
 pub mod Line
 pub mod Numbered
 pub mod Message

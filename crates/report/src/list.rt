@@ -4,6 +4,8 @@ ghost use mathlib.Core.Path.{_≡_};
 ghost use Prim.Native.Nat.{_+_};
 ghost use lib.ListN.{set};
 ghost use Rattle.report.specs.Put.{put, Wrote};
+ghost use Rattle.report.specs.Placed as placed;
+ghost use Rattle.report.specs.Placed.{Placed};
 
 // The numbers of an entry, of what is held and of an unmapped element.
 pub const ENTRY_WIDTH: usize = 6;
@@ -25,15 +27,36 @@ fn put_number(list: &mut [i64], at: usize, i: usize, v: i64)
     list[at + i] = v;
 }
 
-// Puts a row's numbers into a list from a place on.
-pub(crate) fn put_row(list: &mut [i64], at: usize, row: &[i64])
-    ensures { λ r. ⌜ now (list .exit) ≡ put (now (list .entry)) at (now (row .entry)) ⌝ }
+// Puts numbers into a list from a place on.
+fn put_numbers(list: &mut [i64], at: usize, numbers: &[i64])
+    ensures { λ r. ⌜ now (list .exit) ≡ put (now (list .entry)) at (now (numbers .entry)) ⌝ }
 {
     let mut i = 0;
-    while i < row.len() {
-        put_number(list, at, i, row[i]);
+    while i < numbers.len() {
+        put_number(list, at, i, numbers[i]);
         i += 1;
     }
+}
+
+// The place behind n numbers put at a place of a list of this size.
+fn behind(size: usize, at: usize, n: usize) -> usize
+    ensures { λ r. ⌜ r ≡ placed.behind size at n ⌝ }
+{
+    if size <= at {
+        return at;
+    }
+    if size - at <= n {
+        return size;
+    }
+    at + n
+}
+
+// Puts a row into a list at a place, and answers where the next goes.
+pub(crate) fn put_row(list: &mut [i64], at: usize, row: &[i64]) -> usize
+    ensures { λ r. ⌜ Placed (now (list .entry)) at (now (row .entry)) (now (list .exit)) r ⌝ }
+{
+    put_numbers(list, at, row);
+    behind(list.len(), at, row.len())
 }
 
 // Puts b at place at + i, if the list has it.
