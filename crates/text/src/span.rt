@@ -32,6 +32,6 @@ pub fn clip(s: &[u8], start: usize, len: usize) -> &[u8]
     if s.len() - start <= len {
         return &s[start..];
     }
-    let end = start + len;
-    &s[start..end]
+    let past = start + len;
+    &s[start..past]
 }
