@@ -15,3 +15,4 @@ pub mod Alike
 pub mod Exchange
 pub mod Last
 pub mod Sorted
+pub mod Fits
