@@ -17,3 +17,4 @@ pub mod InnerBounds
 pub mod Acts
 pub mod Outcomes
 pub mod Room
+pub mod Spans

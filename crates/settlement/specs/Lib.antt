@@ -16,3 +16,4 @@ pub mod Exchange
 pub mod Last
 pub mod Sorted
 pub mod Fits
+pub mod Inside
