@@ -11,3 +11,10 @@ pub mod LastWins
 pub mod Witness
 pub mod Examples
 pub mod UnmappedSet
+pub mod Counting
+pub mod Bounds
+pub mod InnerBounds
+pub mod Acts
+pub mod Outcomes
+pub mod Room
+pub mod Spans

@@ -15,3 +15,5 @@ pub mod Alike
 pub mod Exchange
 pub mod Last
 pub mod Sorted
+pub mod Fits
+pub mod Inside
