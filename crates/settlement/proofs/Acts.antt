@@ -44,29 +44,29 @@ module _ {N X : Type 0} (L : Lent) (D : Doc N X) where
   weight n = 1 + length (D .kids n)
 
   -- a period says at most two for each date
-  period-most : (n : N) → length (periodOf L D n .says) ≤ 4 * any L D n
+  period-most : (n : N) → length (periodOf (L .mode) D n .says) ≤ 4 * any L D n
   unfolding periodOf
-  period-most n = simp length-append (le-trans (add-le-add (date-any L D false _ _ n "StartDateTime") (date-any L D false _ _ n "EndDateTime")) (omega arith))
+  period-most n = simp length-append (le-trans (add-le-add (date-any L D false _ _ n (bytes "StartDateTime")) (date-any L D false _ _ n (bytes "EndDateTime"))) (omega arith))
 
   -- payment terms say at most two, and pledge one for the mandate
-  paymentTerms-most : (n : N) → length (paymentTermsOf L D n .says) + one (paymentTermsOf L D n .next .mandate) ≤ 3 * any L D n
+  paymentTerms-most : (n : N) → length (paymentTermsOf (L .mode) D n .says) + one (paymentTermsOf (L .mode) D n .next .mandate) ≤ 3 * any L D n
   unfolding paymentTermsOf
-  paymentTerms-most n = le-trans (add-le-add (date-any L D false _ _ n "DueDateDateTime") (kidText-any L D 0 n "DirectDebitMandateID")) (omega arith)
+  paymentTerms-most n = le-trans (add-le-add (date-any L D false _ _ n (bytes "DueDateDateTime")) (kidText-any L D 0 n (bytes "DirectDebitMandateID"))) (omega arith)
 
   -- a preceding invoice says at most one, and two for its date
   preceding-most : (g : ℕ) (n : N) → length (precedingOf L D g n .says) ≤ 1 + 2 * any L D n
   unfolding precedingOf
-  preceding-most g n = simp length-append (add-le-add (requiredCode-most L D _ _ n "IssuerAssignedID") (date-any L D false _ _ n "FormattedIssueDateTime"))
+  preceding-most g n = simp length-append (add-le-add (requiredCode-most L D _ _ n (bytes "IssuerAssignedID")) (date-any L D false _ _ n (bytes "FormattedIssueDateTime")))
 
   -- a child that only changes its lane makes nothing, and pledges one at most
-  quiet-light : {S : Type 0} (s : S) (p : ℕ) (n : N) → p ≤ 1 → Light (weight n) p (quiet L D s)
+  quiet-light : {S : Type 0} (s : S) (p : ℕ) (n : N) → p ≤ 1 → Light (weight n) p (quiet s)
   unfolding quiet
   quiet-light s p n h = record { says = omega arith; holds = omega arith; strays = omega arith }
 
   -- a child of any kind
   own-light : (k : Kind) (b : Bool) (s : Of X k) (cur : Currencies X) (n : N) → Light (weight n) (pledged X k (own L D k b s cur n .next)) (own L D k b s cur n)
   unfolding own
-  own-light creditorReference b s cur n = unfold quiet in quiet-light _ _ n (one-most (textIn L D 0 n))
+  own-light creditorReference b s cur n = unfold quiet in quiet-light _ _ n (one-most (textIn D 0 n))
   own-light paymentReference b s cur n = quiet-light _ _ n (omega arith)
   own-light taxCurrency b s cur n = quiet-light _ _ n (omega arith)
   own-light invoiceCurrency b s cur n = quiet-light _ _ n (omega arith)
@@ -86,12 +86,12 @@ module _ {N X : Type 0} (L : Lent) (D : Doc N X) where
   -- its held rows
   pub holds-weight : (s : State X) (n : N) → length (holdsOf L D s n) ≤ weight n
   unfolding holdsOf act
-  holds-weight s n = own-light (home (kindOf L D n)) _ _ _ n .holds
+  holds-weight s n = own-light (home (kindOf D n)) _ _ _ n .holds
 
   -- its unmapped names
   pub strays-weight : (s : State X) (n : N) → length (straysOf L D s n) ≤ weight n
   unfolding straysOf act
-  strays-weight s n = own-light (home (kindOf L D n)) _ _ _ n .strays
+  strays-weight s n = own-light (home (kindOf D n)) _ _ _ n .strays
 
   -- what is pledged in a state
   abbrev pub pledges : State X → ℕ
@@ -122,4 +122,4 @@ module _ {N X : Type 0} (L : Lent) (D : Doc N X) where
   -- what a child says, with what is pledged after it, is paid for by what was pledged and by the child
   pub says-weight : (s : State X) (n : N) → length (saysOf L D s n) + pledges (step L D s n) ≤ 4 * weight n + pledges s
   unfolding saysOf step act
-  says-weight s n = step-pledges (home (kindOf L D n)) _ (seen L D (kindOf L D n) s) s n
+  says-weight s n = step-pledges (home (kindOf D n)) _ (seen (kindOf D n) s) s n

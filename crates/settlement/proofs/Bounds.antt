@@ -89,129 +89,129 @@ module _ {N X : Type 0} (L : Lent) (D : Doc N X) where
   any n = min 1 (length (D .kids n))
 
   -- the first child of a name is a child
-  first-any : (w : List ℕ) (cs : List N) → one (first L D w cs) ≤ min 1 (length cs)
+  first-any : (w : List ℕ) (cs : List N) → one (first D w cs) ≤ min 1 (length cs)
   unfolding first
   first-any w [] = omega arith
-  first-any w (c ∷ cs) = omega (arith, one-most (first L D w (c ∷ cs)))
+  first-any w (c ∷ cs) = omega (arith, one-most (first D w (c ∷ cs)))
 
   -- by its spelling
-  kid-any : (n : N) (w : String) → one (kid L D n w) ≤ any n
+  kid-any : (n : N) (w : List ℕ) → one (kid D n w) ≤ any n
   unfolding kid
   kid-any n w = first-any _ (D .kids n)
 
   -- a child's text needs a child
-  pub kidText-any : (mode : ℕ) (n : N) (w : String) → one (kidText L D mode n w) ≤ any n
+  pub kidText-any : (mode : ℕ) (n : N) (w : List ℕ) → one (kidText D mode n w) ≤ any n
   unfolding kidText
-  kidText-any mode n w = le-trans (one-maybe (textIn L D mode) (kid L D n w)) (kid-any n w)
+  kidText-any mode n w = le-trans (one-maybe (textIn D mode) (kid D n w)) (kid-any n w)
 
   -- message 9 is one entry
-  pub missing-most : (r : Rule) (s : Site) → length (missing L D r s) ≤ 1
+  pub missing-most : (r : Rule) (s : Site) → length (missing (L .rules) r s) ≤ 1
   unfolding missing
   missing-most r s = cond-list (inForce (L .rules) r) _
 
   -- a parse says at most one
-  answered-most : {A : Type 0} (m : ℕ → Message) (s : Site) (x : X) (a : Answer A) → length (answered L D m s x a .1) ≤ 1
+  answered-most : {A : Type 0} (m : ℕ → Message) (s : Site) (x : X) (a : Answer A) → length (answered (L .mode) D m s x a .1) ≤ 1
   unfolding answered
   answered-most m s x a = maybe-most 1 _ _ (a .value) (omega arith) (λ v. omega arith)
 
   -- so does that of an amount
-  parsed-most : (s : Site) (x : X) → length (parsed L D s x .1) ≤ 1
+  parsed-most : (s : Site) (x : X) → length (parsed (L .mode) D s x .1) ≤ 1
   unfolding parsed
   parsed-most s x = answered-most _ s x _
 
   -- a wrong currency is said instead
-  inCurrency-most : (s : Site) (x c : X) → length (inCurrency L D s x c .1) ≤ 1
+  inCurrency-most : (s : Site) (x c : X) → length (inCurrency (L .mode) (L .currency) D s x c .1) ≤ 1
   unfolding inCurrency
-  inCurrency-most s x c = maybe-most 1 _ _ (wrongCurrency L D c) (parsed-most s x) (λ m. omega arith)
+  inCurrency-most s x c = maybe-most 1 _ _ (wrongCurrency (L .currency) (D .bytes c)) (parsed-most s x) (λ m. omega arith)
 
   -- with a currency or without
-  amountFrom-most : (s : Site) (e : N) (x : X) → length (amountFrom L D s e x .1) ≤ 1
+  amountFrom-most : (s : Site) (e : N) (x : X) → length (amountFrom (L .mode) (L .currency) D s e x .1) ≤ 1
   unfolding amountFrom
-  amountFrom-most s e x = maybe-most 1 _ _ (attribute L D e "currencyID") (parsed-most s x) (inCurrency-most s x)
+  amountFrom-most s e x = maybe-most 1 _ _ (attribute D e (bytes "currencyID")) (parsed-most s x) (inCurrency-most s x)
 
   -- of an element
-  amountOf-most : (s : Site) (e : N) → length (amountOf L D s e .1) ≤ 1
+  amountOf-most : (s : Site) (e : N) → length (amountOf (L .mode) (L .currency) D s e .1) ≤ 1
   unfolding amountOf
   amountOf-most s e = maybe-most 1 _ _ (D .text e) (omega arith) (λ x. cond-most 1 (empty (trimOf (L .mode) (D .bytes x))) _ _ (omega arith) (amountFrom-most s e x))
 
   -- an amount says at most one, and none without children
-  pub amount-any : (s : Site) (n : N) (w : String) → length (amount L D s n w .1) ≤ any n
+  pub amount-any : (s : Site) (n : N) (w : List ℕ) → length (amount (L .mode) (L .currency) D s n w .1) ≤ any n
   unfolding amount
-  amount-any s n w = le-trans (maybe-one none (amountOf L D s) (kid L D n w) (amountOf-most s)) (kid-any n w)
+  amount-any s n w = le-trans (maybe-one none (amountOf (L .mode) (L .currency) D s) (kid D n w) (amountOf-most s)) (kid-any n w)
 
   -- a required amount at most one
-  pub requiredAmount-most : (r : Rule) (p : Path) (s : Site) (n : N) (w : String) → length (requiredAmount L D r p s n w .1) ≤ 1
+  pub requiredAmount-most : (r : Rule) (p : Path) (s : Site) (n : N) (w : List ℕ) → length (requiredAmount L D r p s n w .1) ≤ 1
   unfolding requiredAmount
-  requiredAmount-most r p s n w = maybe-most 1 _ _ (kidText L D (L .mode) n w) (missing-most r _) (λ x. omega (arith, amount-any s n w))
+  requiredAmount-most r p s n w = maybe-most 1 _ _ (kidText D (L .mode) n w) (missing-most r _) (λ x. omega (arith, amount-any s n w))
 
   -- a required code at most one
-  pub requiredCode-most : (r : Rule) (s : Site) (n : N) (w : String) → length (requiredCode L D r s n w .1) ≤ 1
+  pub requiredCode-most : (r : Rule) (s : Site) (n : N) (w : List ℕ) → length (requiredCode (L .rules) D r s n w .1) ≤ 1
   unfolding requiredCode
-  requiredCode-most r s n w = maybe-most 1 _ _ (kidText L D 0 n w) (missing-most r s) (λ x. omega arith)
+  requiredCode-most r s n w = maybe-most 1 _ _ (kidText D 0 n w) (missing-most r s) (λ x. omega arith)
 
   -- a percentage at most one
-  percentOf-most : (s : Site) (e : N) → length (percentOf L D s e .1) ≤ 1
+  percentOf-most : (s : Site) (e : N) → length (percentOf (L .mode) D s e .1) ≤ 1
   unfolding percentOf
   percentOf-most s e = maybe-most 1 _ _ (D .text e) (omega arith) (λ x. cond-most 1 (empty (trimOf (L .mode) (D .bytes x))) _ _ (omega arith) (answered-most _ s x _))
 
   -- and none without children
-  percent-any : (s : Site) (n : N) (w : String) → length (percent L D s n w .1) ≤ any n
+  percent-any : (s : Site) (n : N) (w : List ℕ) → length (percent (L .mode) D s n w .1) ≤ any n
   unfolding percent
-  percent-any s n w = le-trans (maybe-one none (percentOf L D s) (kid L D n w) (percentOf-most s)) (kid-any n w)
+  percent-any s n w = le-trans (maybe-one none (percentOf (L .mode) D s) (kid D n w) (percentOf-most s)) (kid-any n w)
 
   -- message 8 needs a type code
-  notVat-any : (s : Site) (n : N) → length (notVat L D s n) ≤ any n
+  notVat-any : (s : Site) (n : N) → length (notVat D s n) ≤ any n
   unfolding notVat
-  notVat-any s n = le-trans (list-one _ (kidText L D 0 n "TypeCode") (λ x. cond-none (vat (D .bytes x)) _)) (kidText-any 0 n "TypeCode")
+  notVat-any s n = le-trans (list-one _ (kidText D 0 n (bytes "TypeCode")) (λ x. cond-none (vat (D .bytes x)) _)) (kidText-any 0 n (bytes "TypeCode"))
 
   -- a date's text at most one
-  dateAnswer-most : (s : Site) (e : N) (a : Answer ℕ) → length (dateAnswer L D s e a .1) ≤ 1
+  dateAnswer-most : (s : Site) (e : N) (a : Answer ℕ) → length (dateAnswer (L .mode) D s e a .1) ≤ 1
   unfolding dateAnswer
   dateAnswer-most s e a = maybe-most 1 _ _ (a .value) (omega arith) (λ d. omega arith)
 
   -- or its format
-  dateFrom-most : (p : Path) (e : N) → length (dateFrom L D p e .1) ≤ 1
+  dateFrom-most : (p : Path) (e : N) → length (dateFrom (L .mode) D p e .1) ≤ 1
   unfolding dateFrom
   dateFrom-most p e = cond-most 1 (maybe true (λ f. dateFormat (D .bytes f)) (D .attr e (bytes "format"))) _ _ (dateAnswer-most _ e _) (omega arith)
 
   -- the other spelling is one more
-  otherSpelling-most : (p : Path) (e : N) → length (otherSpelling L D p e .1) ≤ 2
+  otherSpelling-most : (p : Path) (e : N) → length (otherSpelling (L .mode) D p e .1) ≤ 2
   unfolding otherSpelling
   otherSpelling-most p e = omega (arith, dateFrom-most p e)
 
   -- a date at most two
-  dateIn-most : (b : Bool) (p q : Path) (w : N) → length (dateIn L D b p q w .1) ≤ 2
+  dateIn-most : (b : Bool) (p q : Path) (w : N) → length (dateIn (L .mode) D b p q w .1) ≤ 2
   unfolding dateIn
   dateIn-most b p q w =
-      maybe-most 2 _ _ (kid L D w "DateTimeString")
-      (maybe-most 2 _ _ (kid L D w "DateString") (omega arith) (λ e. cond-most 2 b _ _ (omega (arith, dateFrom-most q e)) (otherSpelling-most q e)))
+      maybe-most 2 _ _ (kid D w (bytes "DateTimeString"))
+      (maybe-most 2 _ _ (kid D w (bytes "DateString")) (omega arith) (λ e. cond-most 2 b _ _ (omega (arith, dateFrom-most q e)) (otherSpelling-most q e)))
       (λ e. cond-most 2 b _ _ (otherSpelling-most p e) (omega (arith, dateFrom-most p e)))
 
   -- and none without children
-  pub date-any : (b : Bool) (p q : Path) (n : N) (w : String) → length (date L D b p q n w .1) ≤ 2 * any n
+  pub date-any : (b : Bool) (p q : Path) (n : N) (w : List ℕ) → length (date (L .mode) D b p q n w .1) ≤ 2 * any n
   unfolding date
-  date-any b p q n w = omega (arith, maybe-two none (dateIn L D b p q) (kid L D n w) (dateIn-most b p q), kid-any n w)
+  date-any b p q n w = omega (arith, maybe-two none (dateIn (L .mode) D b p q) (kid D n w) (dateIn-most b p q), kid-any n w)
 
   -- a point date as any other
-  pointDate-any : (s : VatState X) (n : N) → length (pointDate L D s n .1) ≤ 2 * any n
+  pointDate-any : (s : VatState X) (n : N) → length (pointDate (L .mode) D s n .1) ≤ 2 * any n
   unfolding pointDate
-  pointDate-any s n = maybe-most (2 * any n) _ _ (s .point) (date-any true _ _ n "TaxPointDate") (λ d. omega arith)
+  pointDate-any s n = maybe-most (2 * any n) _ _ (s .point) (date-any true _ _ n (bytes "TaxPointDate")) (λ d. omega arith)
 
   -- the first point code at most one
-  freshCode-most : (s : VatState X) (x : X) (a : Answer ℕ) → length (freshCode L D s x a .1) ≤ 1
+  freshCode-most : (s : VatState X) (x : X) (a : Answer ℕ) → length (freshCode D s x a .1) ≤ 1
   unfolding freshCode
   freshCode-most s x a = list-most 1 _ _ (a .value) (omega arith) (λ c. omega arith)
 
   -- a further one at most one
-  againCode-most : (s : VatState X) (x f : X) → length (againCode L D s x f .1) ≤ 1
+  againCode-most : (s : VatState X) (x f : X) → length (againCode D s x f .1) ≤ 1
   unfolding againCode
   againCode-most s x f = cond-none (equal (D .bytes f) (D .bytes x)) _
 
   -- none without children
-  pointCode-any : (s : VatState X) (n : N) → length (pointCode L D s n .1) ≤ any n
+  pointCode-any : (s : VatState X) (n : N) → length (pointCode D s n .1) ≤ any n
   unfolding pointCode
   pointCode-any s n =
-      le-trans (maybe-one s _ (kidText L D 0 n "DueDateTypeCode") (λ x. maybe-most 1 _ _ (s .first) (freshCode-most s x _) (againCode-most s x))) (kidText-any 0 n "DueDateTypeCode")
+      le-trans (maybe-one s _ (kidText D 0 n (bytes "DueDateTypeCode")) (λ x. maybe-most 1 _ _ (s .first) (freshCode-most s x _) (againCode-most s x))) (kidText-any 0 n (bytes "DueDateTypeCode"))
 
   -- a VAT breakdown says at most three, and five more where it has children
   pub tradeTax-most : (s : VatState X) (n : N) → length (tradeTaxOf L D s n .says) ≤ 3 + 5 * any n
@@ -221,34 +221,34 @@ module _ {N X : Type 0} (L : Lent) (D : Doc N X) where
       (le-trans
       (add-le-add (pointDate-any s n)
       (add-le-add (pointCode-any s n)
-      (add-le-add (requiredAmount-most _ _ _ n "BasisAmount")
-      (add-le-add (requiredAmount-most _ _ _ n "CalculatedAmount")
-      (add-le-add (notVat-any _ n) (add-le-add (requiredCode-most _ _ n "CategoryCode") (percent-any _ n "RateApplicablePercent")))))))
+      (add-le-add (requiredAmount-most _ _ _ n (bytes "BasisAmount"))
+      (add-le-add (requiredAmount-most _ _ _ n (bytes "CalculatedAmount"))
+      (add-le-add (notVat-any _ n) (add-le-add (requiredCode-most _ _ n (bytes "CategoryCode")) (percent-any _ n (bytes "RateApplicablePercent"))))))))
       (omega arith))
 
   -- a VAT category at most three
   categoryIn-most : (p : TaxPaths) (t : GroupTerms) (g : ℕ) (n : N) → length (categoryIn L D p t g n .1) ≤ 3
   unfolding categoryIn
-  categoryIn-most p t g n = simp length-append (le-trans (add-le-add (notVat-any _ n) (add-le-add (requiredCode-most _ _ n "CategoryCode") (percent-any _ n "RateApplicablePercent"))) (omega arith))
+  categoryIn-most p t g n = simp length-append (le-trans (add-le-add (notVat-any _ n) (add-le-add (requiredCode-most _ _ n (bytes "CategoryCode")) (percent-any _ n (bytes "RateApplicablePercent")))) (omega arith))
 
   -- an absent one is one entry
-  categoryOf-most : (p : TaxPaths) (t : GroupTerms) (g : ℕ) (n : N) (w : String) → length (categoryOf L D p t g n w .1) ≤ 1 + 2 * any n
+  categoryOf-most : (p : TaxPaths) (t : GroupTerms) (g : ℕ) (n : N) (w : List ℕ) → length (categoryOf L D p t g n w .1) ≤ 1 + 2 * any n
   unfolding categoryOf
-  categoryOf-most p t g n w = go (kid L D n w) (kid-any n w)
+  categoryOf-most p t g n w = go (kid D n w) (kid-any n w)
     where
-      go : (o : Option N) → one o ≤ any n → length (maybe ((D .empty, none), missing L D (t .categoryRule) (grouped (p .parent) (t .category) g)) (categoryIn L D p t g) o .1) ≤ 1 + 2 * any n
+      go : (o : Option N) → one o ≤ any n → length (maybe ((D .empty, none), missing (L .rules) (t .categoryRule) (grouped (p .parent) (t .category) g)) (categoryIn L D p t g) o .1) ≤ 1 + 2 * any n
       go none h = omega (arith, missing-most (t .categoryRule) (grouped (p .parent) (t .category) g))
       go (some e) h = omega (arith, categoryIn-most p t g e)
 
   -- an indicator at most one
-  indicated-most : (i : N) (a : Answer Bool) → length (indicated L D i a .1) ≤ 1
+  indicated-most : (i : N) (a : Answer Bool) → length (indicated D i a .1) ≤ 1
   unfolding indicated
   indicated-most i a = maybe-most 1 _ _ (a .value) (omega arith) (λ b. omega arith)
 
   -- an absent one is one entry
-  isCharge-most : (n : N) → length (isCharge L D n .1) ≤ 1
+  isCharge-most : (n : N) → length (isCharge D n .1) ≤ 1
   unfolding isCharge
-  isCharge-most n = maybe-most 1 _ _ (indicator L D n) (omega arith) (λ i. indicated-most i _)
+  isCharge-most n = maybe-most 1 _ _ (indicator D n) (omega arith) (λ i. indicated-most i _)
 
   -- category, amount, base and percentage
   allowanceChargeOf-most : (b : Bool) (g : ℕ) (n : N) → length (allowanceChargeOf L D b g n .1) ≤ 2 + 4 * any n
@@ -256,7 +256,7 @@ module _ {N X : Type 0} (L : Lent) (D : Doc N X) where
   allowanceChargeOf-most b g n =
       simp length-append
       (le-trans
-      (add-le-add (categoryOf-most _ _ g n "CategoryTradeTax") (add-le-add (requiredAmount-most _ _ _ n "ActualAmount") (add-le-add (amount-any _ n "BasisAmount") (percent-any _ n "CalculationPercent"))))
+      (add-le-add (categoryOf-most _ _ g n (bytes "CategoryTradeTax")) (add-le-add (requiredAmount-most _ _ _ n (bytes "ActualAmount")) (add-le-add (amount-any _ n (bytes "BasisAmount")) (percent-any _ n (bytes "CalculationPercent")))))
       (omega arith))
 
   -- an allowance or a charge says at most three, and four more where it has children
@@ -267,14 +267,14 @@ module _ {N X : Type 0} (L : Lent) (D : Doc N X) where
   -- category and amount
   logisticsRead-most : (s : Counts) (n : N) → length (logisticsRead L D s n .says) ≤ 2 + 2 * any n
   unfolding logisticsRead
-  logisticsRead-most s n = simp length-append (le-trans (add-le-add (categoryOf-most _ _ _ n "AppliedTradeTax") (requiredAmount-most _ _ _ n "AppliedAmount")) (omega arith))
+  logisticsRead-most s n = simp length-append (le-trans (add-le-add (categoryOf-most _ _ _ n (bytes "AppliedTradeTax")) (requiredAmount-most _ _ _ n (bytes "AppliedAmount"))) (omega arith))
 
   -- a logistics charge says at most two, and two more where it has children
   pub logistics-most : (s : Counts) (n : N) → length (logistics L D s n .says) ≤ 2 + 2 * any n
   unfolding logistics logisticsLeft
   logistics-most s n = go (conformant (L .identifier))
     where
-      go : (b : Bool) → length (cond b (logisticsRead L D s n) (logisticsLeft L D s) .says) ≤ 2 + 2 * any n
+      go : (b : Bool) → length (cond b (logisticsRead L D s n) (logisticsLeft s) .says) ≤ 2 + 2 * any n
       go true = logisticsRead-most s n
       go false = omega arith
 
@@ -283,7 +283,7 @@ module _ {N X : Type 0} (L : Lent) (D : Doc N X) where
   unfolding logistics logisticsRead logisticsLeft
   logistics-row s n = go (conformant (L .identifier))
     where
-      go : (b : Bool) → length (cond b (logisticsRead L D s n) (logisticsLeft L D s) .holds) ≤ 1
+      go : (b : Bool) → length (cond b (logisticsRead L D s n) (logisticsLeft s) .holds) ≤ 1
       go true = omega arith
       go false = omega arith
 
@@ -292,6 +292,6 @@ module _ {N X : Type 0} (L : Lent) (D : Doc N X) where
   unfolding logistics logisticsRead logisticsLeft
   logistics-stray s n = go (conformant (L .identifier))
     where
-      go : (b : Bool) → length (cond b (logisticsRead L D s n) (logisticsLeft L D s) .strays) ≤ 0
+      go : (b : Bool) → length (cond b (logisticsRead L D s n) (logisticsLeft s) .strays) ≤ 0
       go true = omega arith
       go false = omega arith

@@ -41,12 +41,12 @@ module _ {N X : Type 0} (L : Lent) (D : Doc N X) where
   still s = record { says = omega arith; rows = omega arith; strays = omega arith }
 
   -- one entry
-  notHeld-grown : (m : Message) (p : Path) (s : Paying X) → Grown 1 s (notHeld L D m p s)
+  notHeld-grown : (m : Message) (p : Path) (s : Paying X) → Grown 1 s (notHeld m p s)
   unfolding notHeld
   notHeld-grown m p s = record { says = length-snoc (s .says) _; rows = omega arith; strays = omega arith }
 
   -- a further card or debited account is one entry
-  firstMeans-grown : (k : Means X) (m : Message) (p : Path) (new : Means X) (s : Paying X) → Grown 1 s (firstMeans L D k m p new s)
+  firstMeans-grown : (k : Means X) (m : Message) (p : Path) (new : Means X) (s : Paying X) → Grown 1 s (firstMeans k m p new s)
   unfolding firstMeans withMeans
   firstMeans-grown unset m p new s = record { says = omega arith; rows = omega arith; strays = omega arith }
   firstMeans-grown (card a b) m p new s = notHeld-grown m p s
@@ -54,17 +54,17 @@ module _ {N X : Type 0} (L : Lent) (D : Doc N X) where
   firstMeans-grown transfers m p new s = notHeld-grown m p s
 
   -- an account that is held is one transfer
-  joined-grown : (c : N) (s : Paying X) → Grown 1 s (joined L D c s)
+  joined-grown : (c : N) (s : Paying X) → Grown 1 s (joined D c s)
   unfolding joined
   joined-grown c s = record { says = omega arith; rows = length-snoc (s .rows) _; strays = omega arith }
 
   -- one that is not is one entry
-  lost-grown : (s : Paying X) → Grown 1 s (lost L D s)
+  lost-grown : (s : Paying X) → Grown 1 s (lost s)
   unfolding lost notHeld
   lost-grown s = record { says = length-snoc (s .says) _; rows = omega arith; strays = omega arith }
 
   -- an account is one or the other
-  creditor-grown : (k : Means X) (c : N) (s : Paying X) → Grown 1 s (creditor L D k c s)
+  creditor-grown : (k : Means X) (c : N) (s : Paying X) → Grown 1 s (creditor D k c s)
   unfolding creditor
   creditor-grown unset c s = joined-grown c s
   creditor-grown transfers c s = joined-grown c s
@@ -78,19 +78,19 @@ module _ {N X : Type 0} (L : Lent) (D : Doc N X) where
   length-provided o t (u ∷ l) = omega (arith, length-provided o u l)
 
   -- a provider without an account
-  alone-grown : (m : Message) (p : Path) (o : Option X) (s : Paying X) → Grown 1 s (maybe s (λ x. notHeld L D m p s) o)
+  alone-grown : (m : Message) (p : Path) (o : Option X) (s : Paying X) → Grown 1 s (maybe s (λ x. notHeld m p s) o)
   alone-grown m p none s = still s
   alone-grown m p (some x) s = notHeld-grown m p s
 
   -- a provider is at most one entry
-  providerOf-grown : (b : Bool) (l : List (Transfer X)) (o : Option X) (s : Paying X) → s .rows ≡ l → Grown 1 s (providerOf L D b l o s)
+  providerOf-grown : (b : Bool) (l : List (Transfer X)) (o : Option X) (s : Paying X) → s .rows ≡ l → Grown 1 s (providerOf b l o s)
   unfolding providerOf
   providerOf-grown true (t ∷ l) o s e = record { says = omega arith; rows = rw e (omega (arith, length-provided o t l)); strays = omega arith }
   providerOf-grown true [] o s e = alone-grown _ _ o s
   providerOf-grown false l o s e = alone-grown _ _ o s
 
   -- any child
-  part-grown : (p : Part) (s : Paying X) (c : N) → Grown 1 s (part L D p s c)
+  part-grown : (p : Part) (s : Paying X) (c : N) → Grown 1 s (part D p s c)
   unfolding part
   part-grown typeCode s c = record { says = omega arith; rows = omega arith; strays = omega arith }
   part-grown information s c = record { says = omega arith; rows = omega arith; strays = omega arith }
@@ -101,31 +101,31 @@ module _ {N X : Type 0} (L : Lent) (D : Doc N X) where
   part-grown unknown s c = record { says = omega arith; rows = omega arith; strays = length-snoc (s .strays) _ }
 
   -- children, one after the other
-  paying-grown : (s : Paying X) (cs : List N) → Grown (length cs) s (foldl (paying L D) s cs)
+  paying-grown : (s : Paying X) (cs : List N) → Grown (length cs) s (foldl (paying D) s cs)
   unfolding paying
   paying-grown s [] = record { says = omega arith; rows = omega arith; strays = omega arith }
   paying-grown s (c ∷ cs) =
-      let g = part-grown (partOf L D c) s c in
-      let h = paying-grown (paying L D s c) cs in
+      let g = part-grown (partOf D c) s c in
+      let h = paying-grown (paying D s c) cs in
       record { says = omega (arith, g .says, h .says); rows = omega (arith, g .rows, h .rows); strays = omega (arith, g .strays, h .strays) }
 
   -- all of them
-  paid-grown : (p : Payment X) (n : N) → Grown (length (D .kids n)) (payingStart L D p) (paid L D p n)
+  paid-grown : (p : Payment X) (n : N) → Grown (length (D .kids n)) (payingStart p) (paid D p n)
   unfolding paid
-  paid-grown p n = paying-grown (payingStart L D p) (D .kids n)
+  paid-grown p n = paying-grown (payingStart p) (D .kids n)
 
   -- a payment means says at most one for each child
-  pub means-says : (p : Payment X) (n : N) → length (paymentMeansOf L D p n .says) ≤ length (D .kids n)
+  pub means-says : (p : Payment X) (n : N) → length (paymentMeansOf D p n .says) ≤ length (D .kids n)
   unfolding paymentMeansOf payingStart
   means-says p n = omega (arith, paid-grown p n .says)
 
   -- holds at most one
-  pub means-rows : (p : Payment X) (n : N) → length (paymentMeansOf L D p n .holds) ≤ length (D .kids n)
+  pub means-rows : (p : Payment X) (n : N) → length (paymentMeansOf D p n .holds) ≤ length (D .kids n)
   unfolding paymentMeansOf payingStart
-  means-rows p n = omega (arith, paid-grown p n .rows, length-map transfer (paid L D p n .rows))
+  means-rows p n = omega (arith, paid-grown p n .rows, length-map transfer (paid D p n .rows))
 
   -- and strays at most one
-  pub means-strays : (p : Payment X) (n : N) → length (paymentMeansOf L D p n .strays) ≤ length (D .kids n)
+  pub means-strays : (p : Payment X) (n : N) → length (paymentMeansOf D p n .strays) ≤ length (D .kids n)
   unfolding paymentMeansOf payingStart
   means-strays p n = omega (arith, paid-grown p n .strays)
 
@@ -140,14 +140,14 @@ module _ {N X : Type 0} (L : Lent) (D : Doc N X) where
   said-more l es h = omega (arith, length-append l es)
 
   -- with the entries of one tax total
-  withVat-added : (v w : Option ℤ) (es : List (Entry X)) (s : Summing X) → length es ≤ 2 → Added 1 s (withVat L D v w es s)
+  withVat-added : (v w : Option ℤ) (es : List (Entry X)) (s : Summing X) → length es ≤ 2 → Added 1 s (withVat v w es s)
   unfolding withVat
   withVat-added v w es s h = record { says = said-more (s .says) es h; strays = omega arith }
 
   -- in a currency, at most one entry more
-  taxIn-added : (cur : Currencies X) (a : Option ℤ) (es : List (Entry X)) (s : Summing X) (c : X) → length es ≤ 1 → Added 1 s (taxIn L D cur a es s c)
+  taxIn-added : (cur : Currencies X) (a : Option ℤ) (es : List (Entry X)) (s : Summing X) (c : X) → length es ≤ 1 → Added 1 s (taxIn D cur a es s c)
   unfolding taxIn
-  taxIn-added cur a es s c h = go (isCurrency L D (cur .bt6) c) (isCurrency L D (cur .bt5) c) (withVat-added _ _ es s (omega arith)) (withVat-added _ _ es s (omega arith)) (withVat-added _ _ _ s (le-trans (length-snoc es _) (omega arith)))
+  taxIn-added cur a es s c h = go (isCurrency D (cur .bt6) c) (isCurrency D (cur .bt5) c) (withVat-added _ _ es s (omega arith)) (withVat-added _ _ es s (omega arith)) (withVat-added _ _ _ s (le-trans (length-snoc es _) (omega arith)))
     where
       go : (p q : Bool) {x y z : Summing X} → Added 1 s x → Added 1 s y → Added 1 s z → Added 1 s (cond p x (cond q y z))
       go true q g h k = g
@@ -155,21 +155,21 @@ module _ {N X : Type 0} (L : Lent) (D : Doc N X) where
       go false false g h k = k
 
   -- an unreadable tax total is one entry
-  taxRead-most : (c : N) (a : Answer ℤ) → length (taxRead L D c a .1) ≤ 1
+  taxRead-most : (c : N) (a : Answer ℤ) → length (taxRead (L .mode) D c a .1) ≤ 1
   unfolding taxRead
   taxRead-most c a = maybe-most 1 _ _ (a .value) (omega arith) (λ z. omega arith)
 
   -- the amount of a tax total
-  taxAmount-most : (c : N) → length (taxAmount L D c .1) ≤ 1
+  taxAmount-most : (c : N) → length (taxAmount (L .mode) D c .1) ≤ 1
   unfolding taxAmount
   taxAmount-most c = taxRead-most c _
 
   -- a tax total
   taxTotalOf-added : (cur : Currencies X) (s : Summing X) (c : N) → Added 1 s (taxTotalOf L D cur s c)
   unfolding taxTotalOf
-  taxTotalOf-added cur s c = go (attribute L D c "currencyID")
+  taxTotalOf-added cur s c = go (attribute D c (bytes "currencyID"))
     where
-      go : (o : Option X) → Added 1 s (maybe (withVat L D (taxAmount L D c .0) (s .vatAccounting) (taxAmount L D c .1) s) (taxIn L D cur (taxAmount L D c .0) (taxAmount L D c .1) s) o)
+      go : (o : Option X) → Added 1 s (maybe (withVat (taxAmount (L .mode) D c .0) (s .vatAccounting) (taxAmount (L .mode) D c .1) s) (taxIn D cur (taxAmount (L .mode) D c .0) (taxAmount (L .mode) D c .1) s) o)
       go none = withVat-added _ _ _ s (omega (arith, taxAmount-most c))
       go (some d) = taxIn-added cur _ _ s d (taxAmount-most c)
 
@@ -177,11 +177,11 @@ module _ {N X : Type 0} (L : Lent) (D : Doc N X) where
   summand-added : (k : Sum) (cur : Currencies X) (n : N) (s : Summing X) (c : N) → Added 1 s (summand L D k cur n s c)
   unfolding summand
   summand-added required cur n s c = record { says = omega arith; strays = omega arith }
-  summand-added allowanceTotal cur n s c = record { says = said-more (s .says) _ (le-trans (amount-any L D _ n "AllowanceTotalAmount") (omega arith)); strays = omega arith }
-  summand-added chargeTotal cur n s c = record { says = said-more (s .says) _ (le-trans (amount-any L D _ n "ChargeTotalAmount") (omega arith)); strays = omega arith }
+  summand-added allowanceTotal cur n s c = record { says = said-more (s .says) _ (le-trans (amount-any L D _ n (bytes "AllowanceTotalAmount")) (omega arith)); strays = omega arith }
+  summand-added chargeTotal cur n s c = record { says = said-more (s .says) _ (le-trans (amount-any L D _ n (bytes "ChargeTotalAmount")) (omega arith)); strays = omega arith }
   summand-added taxTotal cur n s c = taxTotalOf-added cur s c
-  summand-added rounding cur n s c = record { says = said-more (s .says) _ (le-trans (amount-any L D _ n "RoundingAmount") (omega arith)); strays = omega arith }
-  summand-added prepaid cur n s c = record { says = said-more (s .says) _ (le-trans (amount-any L D _ n "TotalPrepaidAmount") (omega arith)); strays = omega arith }
+  summand-added rounding cur n s c = record { says = said-more (s .says) _ (le-trans (amount-any L D _ n (bytes "RoundingAmount")) (omega arith)); strays = omega arith }
+  summand-added prepaid cur n s c = record { says = said-more (s .says) _ (le-trans (amount-any L D _ n (bytes "TotalPrepaidAmount")) (omega arith)); strays = omega arith }
   summand-added unread cur n s c = record { says = omega arith; strays = length-snoc (s .strays) _ }
 
   -- its children, one after the other
@@ -189,7 +189,7 @@ module _ {N X : Type 0} (L : Lent) (D : Doc N X) where
   unfolding summing
   summing-added cur n s [] = record { says = omega arith; strays = omega arith }
   summing-added cur n s (c ∷ cs) =
-      let g = summand-added (sumOf L D c) cur n s c in
+      let g = summand-added (sumOf D c) cur n s c in
       let h = summing-added cur n (summing L D cur n s c) cs in
       record { says = omega (arith, g .says, h .says); strays = omega (arith, g .strays, h .strays) }
 
@@ -209,8 +209,8 @@ module _ {N X : Type 0} (L : Lent) (D : Doc N X) where
       simp length-append
       (le-trans
       (add-le-add (summed-added cur n .says)
-      (add-le-add (requiredAmount-most L D _ _ _ n "LineTotalAmount")
-      (add-le-add (requiredAmount-most L D _ _ _ n "TaxBasisTotalAmount") (add-le-add (requiredAmount-most L D _ _ _ n "GrandTotalAmount") (requiredAmount-most L D _ _ _ n "DuePayableAmount")))))
+      (add-le-add (requiredAmount-most L D _ _ _ n (bytes "LineTotalAmount"))
+      (add-le-add (requiredAmount-most L D _ _ _ n (bytes "TaxBasisTotalAmount")) (add-le-add (requiredAmount-most L D _ _ _ n (bytes "GrandTotalAmount")) (requiredAmount-most L D _ _ _ n (bytes "DuePayableAmount"))))))
       (omega arith))
 
   -- and strays at most one for each child

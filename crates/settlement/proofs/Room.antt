@@ -61,7 +61,7 @@ module _ {N X : Type 0} (L : Lent) (D : Doc N X) where
   says-total s (c ∷ cs) = omega (arith, length-append (saysOf L D s c) (said (step L D) (saysOf L D) (step L D s c) cs), says-weight L D s c, says-total (step L D s c) cs)
 
   -- beside a card or transfers, one for the mandate and one for the creditor identifier
-  besides-most : (m : Means X) (a c : Option X) → length (besides L D m a c .says) ≤ one a + one c
+  besides-most : (m : Means X) (a c : Option X) → length (besides m a c .says) ≤ one a + one c
   unfolding besides
   besides-most m none none = omega arith
   besides-most m none (some c) = omega arith
@@ -69,7 +69,7 @@ module _ {N X : Type 0} (L : Lent) (D : Doc N X) where
   besides-most m (some a) (some c) = omega arith
 
   -- else none
-  debited-most : (m : Means X) (a c : Option X) → length (debited L D m a c .says) ≤ one a + one c
+  debited-most : (m : Means X) (a c : Option X) → length (debited m a c .says) ≤ one a + one c
   unfolding debited
   debited-most unset a c = omega arith
   debited-most (debit d) a c = omega arith
@@ -77,7 +77,7 @@ module _ {N X : Type 0} (L : Lent) (D : Doc N X) where
   debited-most transfers a c = besides-most transfers a c
 
   -- at the end: four, and those that were pledged
-  late-most : (s : State X) → length (lateOf L D s) ≤ 4 + pledges L D s
+  late-most : (s : State X) → length (lateOf (L .rules) s) ≤ 4 + pledges L D s
   unfolding lateOf debitOf
   late-most s =
       simp length-append
@@ -93,7 +93,7 @@ module _ {N X : Type 0} (L : Lent) (D : Doc N X) where
   entries-most : (cs : List N) → length (readingOf L D cs .entries) ≤ 4 + 4 * total (weight L D) cs
   unfolding readingOf after
   entries-most cs =
-      omega (arith, length-append (said (step L D) (saysOf L D) (blank X) cs) (lateOf L D (after L D cs)), says-total (blank X) cs, late-most (after L D cs))
+      omega (arith, length-append (said (step L D) (saysOf L D) (blank X) cs) (lateOf (L .rules) (after L D cs)), says-total (blank X) cs, late-most (after L D cs))
 
   -- a held row for each
   held-most : (cs : List N) → length (readingOf L D cs .held) ≤ total (weight L D) cs
@@ -104,7 +104,7 @@ module _ {N X : Type 0} (L : Lent) (D : Doc N X) where
   unmapped-most : (cs : List N) → length (readingOf L D cs .unmapped) ≤ total (weight L D) cs
   unfolding readingOf
   unmapped-most cs =
-      le-trans (insertAll-most (unmappedOrder L D) [] (said (step L D) (straysOf L D) (blank X) cs))
+      le-trans (insertAll-most (unmappedOrder D) [] (said (step L D) (straysOf L D) (blank X) cs))
       (omega (arith, said-total (step L D) (straysOf L D) (weight L D) (strays-weight L D) (blank X) cs))
 
 module _ (L : Lent) (t x : List ℕ) where

@@ -30,8 +30,8 @@ part-result-end-2 c = search needs
 returns-2 : tie.Need-returns-2
 returns-2 c = search clip-long
 
-add-end : tie.Need-add-end
-add-end c = search needs
+add-past : tie.Need-add-past
+add-past c = search needs
 
 sub-result-3 : tie.Need-sub-result-3
 sub-result-3 c = search needs
@@ -58,7 +58,7 @@ clip-spec =
     part-result-start-2
     part-result-end-2
     returns-2
-    add-end
+    add-past
     sub-result-3
     part-result-start-3
     part-result-end-3
