@@ -4,6 +4,7 @@ use Prim.Native.Nat.{ℕ, _+_, _*_, _≤_}
 use native.Mathlib.Omega.{arith}
 use native.Mathlib.Nat.{add-le-add, le-trans}
 use lib.ListN.{length, length-append}
+use Rattle.text.specs.Utf8.{bytes}
 use Rattle.settlement.specs.Document.{Doc}
 use Rattle.settlement.specs.Kinds.{Kind, creditorReference, paymentReference, taxCurrency, invoiceCurrency, payee, paymentMeans, tradeTax, period, allowanceCharge, logisticsCharge, paymentTerms, summation, precedingInvoice, accounting, other, sameKind, home}
 use Rattle.settlement.specs.Shapes.{Of, State, Act, Currencies}
@@ -59,7 +60,7 @@ module _ {N X : Type 0} (L : Lent) (D : Doc N X) where
   preceding-most g n = simp length-append (add-le-add (requiredCode-most L D _ _ n (bytes "IssuerAssignedID")) (date-any L D false _ _ n (bytes "FormattedIssueDateTime")))
 
   -- a child that only changes its lane makes nothing, and pledges one at most
-  quiet-light : {S : Type 0} (s : S) (p : ℕ) (n : N) → p ≤ 1 → Light (weight n) p (quiet s)
+  quiet-light : {S : Type 0} (s : S) (p : ℕ) (n : N) → p ≤ 1 → Light (weight n) p (quiet {X = X} s)
   unfolding quiet
   quiet-light s p n h = record { says = omega arith; holds = omega arith; strays = omega arith }
 

@@ -22,7 +22,7 @@ use Rattle.report.specs.declared.message.Message.{Message}
 use Rattle.report.specs.declared.path.Path.{Path}
 use Rattle.settlement.specs.Document.{Doc, maybe}
 use Rattle.settlement.specs.Shapes.{VatState, Counts}
-use Rattle.settlement.specs.Values.{Lent, Site, grouped, Says, textIn, first, kid, kidText, attribute, missing, answered, wrongCurrency, parsed, inCurrency, amountFrom, amountOf, amount, requiredAmount, requiredCode, percentOf, percent, notVat, dateAnswer, dateFrom, otherSpelling, dateIn, date}
+use Rattle.settlement.specs.Values.{Lent, Site, grouped, Says, textIn, first, kid, kidText, attribute, missing, answered, wrongCurrency, parsed, inCurrency, amountFrom, amountOf, amount, requiredAmount, requiredCode, percentOf, percent, notVat, dateFrom, otherSpelling, dateIn, date}
 use Rattle.settlement.specs.Tax.{TaxPaths, GroupTerms, pointDate, freshCode, againCode, pointCode, tradeTaxOf, categoryIn, categoryOf, indicated, indicator, isCharge, allowanceChargeOf, allowanceOrCharge, logisticsRead, logisticsLeft, logistics}
 
 -- 1 where there is something
@@ -105,34 +105,34 @@ module _ {N X : Type 0} (L : Lent) (D : Doc N X) where
   kidText-any mode n w = le-trans (one-maybe (textIn D mode) (kid D n w)) (kid-any n w)
 
   -- message 9 is one entry
-  pub missing-most : (r : Rule) (s : Site) → length (missing (L .rules) r s) ≤ 1
+  pub missing-most : (r : Rule) (s : Site) → length (missing {X = X} (L .rules) r s) ≤ 1
   unfolding missing
   missing-most r s = cond-list (inForce (L .rules) r) _
 
   -- a parse says at most one
-  answered-most : {A : Type 0} (m : ℕ → Message) (s : Site) (x : X) (a : Answer A) → length (answered (L .mode) D m s x a .1) ≤ 1
+  pub answered-most : {A : Type 0} (m : ℕ → Message) (s : Site) (e : N) (a : Answer A) → length (answered (L .mode) D m s e a .1) ≤ 1
   unfolding answered
-  answered-most m s x a = maybe-most 1 _ _ (a .value) (omega arith) (λ v. omega arith)
+  answered-most m s e a = maybe-most 1 _ _ (a .value) (omega arith) (λ v. omega arith)
 
   -- so does that of an amount
-  parsed-most : (s : Site) (x : X) → length (parsed (L .mode) D s x .1) ≤ 1
+  parsed-most : (s : Site) (e : N) → length (parsed (L .mode) D s e .1) ≤ 1
   unfolding parsed
-  parsed-most s x = answered-most _ s x _
+  parsed-most s e = answered-most _ s e _
 
   -- a wrong currency is said instead
-  inCurrency-most : (s : Site) (x c : X) → length (inCurrency (L .mode) (L .currency) D s x c .1) ≤ 1
+  inCurrency-most : (s : Site) (e : N) (c : X) → length (inCurrency (L .mode) (L .currency) D s e c .1) ≤ 1
   unfolding inCurrency
-  inCurrency-most s x c = maybe-most 1 _ _ (wrongCurrency (L .currency) (D .bytes c)) (parsed-most s x) (λ m. omega arith)
+  inCurrency-most s e c = maybe-most 1 _ _ (wrongCurrency (L .currency) (D .bytes c)) (parsed-most s e) (λ m. omega arith)
 
   -- with a currency or without
-  amountFrom-most : (s : Site) (e : N) (x : X) → length (amountFrom (L .mode) (L .currency) D s e x .1) ≤ 1
+  amountFrom-most : (s : Site) (e : N) → length (amountFrom (L .mode) (L .currency) D s e .1) ≤ 1
   unfolding amountFrom
-  amountFrom-most s e x = maybe-most 1 _ _ (attribute D e (bytes "currencyID")) (parsed-most s x) (inCurrency-most s x)
+  amountFrom-most s e = maybe-most 1 _ _ (attribute D e (bytes "currencyID")) (parsed-most s e) (inCurrency-most s e)
 
   -- of an element
   amountOf-most : (s : Site) (e : N) → length (amountOf (L .mode) (L .currency) D s e .1) ≤ 1
   unfolding amountOf
-  amountOf-most s e = maybe-most 1 _ _ (D .text e) (omega arith) (λ x. cond-most 1 (empty (trimOf (L .mode) (D .bytes x))) _ _ (omega arith) (amountFrom-most s e x))
+  amountOf-most s e = maybe-most 1 _ _ (textIn D (L .mode) e) (omega arith) (λ x. amountFrom-most s e)
 
   -- an amount says at most one, and none without children
   pub amount-any : (s : Site) (n : N) (w : List ℕ) → length (amount (L .mode) (L .currency) D s n w .1) ≤ any n
@@ -152,7 +152,7 @@ module _ {N X : Type 0} (L : Lent) (D : Doc N X) where
   -- a percentage at most one
   percentOf-most : (s : Site) (e : N) → length (percentOf (L .mode) D s e .1) ≤ 1
   unfolding percentOf
-  percentOf-most s e = maybe-most 1 _ _ (D .text e) (omega arith) (λ x. cond-most 1 (empty (trimOf (L .mode) (D .bytes x))) _ _ (omega arith) (answered-most _ s x _))
+  percentOf-most s e = maybe-most 1 _ _ (textIn D (L .mode) e) (omega arith) (λ x. answered-most _ s e _)
 
   -- and none without children
   percent-any : (s : Site) (n : N) (w : List ℕ) → length (percent (L .mode) D s n w .1) ≤ any n
@@ -164,15 +164,10 @@ module _ {N X : Type 0} (L : Lent) (D : Doc N X) where
   unfolding notVat
   notVat-any s n = le-trans (list-one _ (kidText D 0 n (bytes "TypeCode")) (λ x. cond-none (vat (D .bytes x)) _)) (kidText-any 0 n (bytes "TypeCode"))
 
-  -- a date's text at most one
-  dateAnswer-most : (s : Site) (e : N) (a : Answer ℕ) → length (dateAnswer (L .mode) D s e a .1) ≤ 1
-  unfolding dateAnswer
-  dateAnswer-most s e a = maybe-most 1 _ _ (a .value) (omega arith) (λ d. omega arith)
-
-  -- or its format
+  -- a date element at most one
   dateFrom-most : (p : Path) (e : N) → length (dateFrom (L .mode) D p e .1) ≤ 1
   unfolding dateFrom
-  dateFrom-most p e = cond-most 1 (maybe true (λ f. dateFormat (D .bytes f)) (D .attr e (bytes "format"))) _ _ (dateAnswer-most _ e _) (omega arith)
+  dateFrom-most p e = cond-most 1 (maybe true (λ f. dateFormat (D .bytes f)) (D .attr e (bytes "format"))) _ _ (answered-most _ _ e _) (omega arith)
 
   -- the other spelling is one more
   otherSpelling-most : (p : Path) (e : N) → length (otherSpelling (L .mode) D p e .1) ≤ 2

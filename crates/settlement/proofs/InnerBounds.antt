@@ -8,6 +8,7 @@ use native.Mathlib.Omega.{arith}
 use native.Mathlib.Nat.{add-le-add, le-trans}
 use lib.IntN.{ℤ}
 use lib.ListN.{length, length-append}
+use Rattle.text.specs.Utf8.{bytes}
 use Rattle.text.specs.Answer.{Answer}
 use Rattle.report.specs.Rows.{Entry, Transfer, transfer}
 use Rattle.report.specs.declared.message.Message.{Message}
@@ -16,8 +17,8 @@ use Rattle.settlement.specs.Document.{Doc, maybe}
 use Rattle.settlement.specs.Shapes.{Means, unset, card, debit, transfers, Payment, Currencies}
 use Rattle.settlement.specs.Values.{Lent, attribute}
 use Rattle.settlement.specs.Payments.{Part, typeCode, information, financialCard, debtorAccount, creditorAccount, institution, unknown, Paying, provided, partOf, notHeld, withMeans, firstMeans, joined, lost, creditor, providerOf, part, paying, payingStart, paid, paymentMeansOf}
-use Rattle.settlement.specs.Summation.{Sum, required, allowanceTotal, chargeTotal, taxTotal, rounding, prepaid, unread, Summing, sumOf, isCurrency, withVat, taxIn, taxRead, taxAmount, taxTotalOf, summand, summing, summed, totals}
-use Rattle.settlement.proofs.Bounds.{maybe-most, amount-any, requiredAmount-most}
+use Rattle.settlement.specs.Summation.{Sum, required, allowanceTotal, chargeTotal, taxTotal, rounding, prepaid, unread, Summing, sumOf, isCurrency, withVat, taxIn, taxAmount, taxTotalOf, summand, summing, summed, totals}
+use Rattle.settlement.proofs.Bounds.{answered-most, amount-any, requiredAmount-most}
 
 module _ {A : Type 0} where
   -- one element more
@@ -154,15 +155,10 @@ module _ {N X : Type 0} (L : Lent) (D : Doc N X) where
       go false true g h k = h
       go false false g h k = k
 
-  -- an unreadable tax total is one entry
-  taxRead-most : (c : N) (a : Answer ℤ) → length (taxRead (L .mode) D c a .1) ≤ 1
-  unfolding taxRead
-  taxRead-most c a = maybe-most 1 _ _ (a .value) (omega arith) (λ z. omega arith)
-
   -- the amount of a tax total
   taxAmount-most : (c : N) → length (taxAmount (L .mode) D c .1) ≤ 1
   unfolding taxAmount
-  taxAmount-most c = taxRead-most c _
+  taxAmount-most c = answered-most L D _ _ c _
 
   -- a tax total
   taxTotalOf-added : (cur : Currencies X) (s : Summing X) (c : N) → Added 1 s (taxTotalOf L D cur s c)

@@ -11,7 +11,7 @@ use borrow.Author.Tests.{ltb-false, ne-eqb}
 use lib.Dec.{ltb, eqb}
 use lib.IntN.{pos}
 use lib.ListN.{length}
-use Rattle.table.specs.Table.{records, cell, kids, attribute}
+use Rattle.table.specs.Table.{records, cell, named, kids, attrs, firstOf}
 use Rattle.table.specs.Refusals.{beyond, outside, refusal}
 use Rattle.table.specs.Acceptance.{Accepted}
 use Rattle.table.proofs.Accepting.{accepted-is, neither}
@@ -70,7 +70,7 @@ module _ (t x : List ℕ) (a : Accepted t x) where
       record {
         name = nameSpot;
         text = λ j. cond (eqb (cell t j 5) 0) none (some (textSpot j));
-        attr = λ j w. maybe none (λ i. some (textSpot i)) (attribute t x j w);
+        attr = λ j w. maybe none (λ i. some (textSpot i)) (firstOf (named t x w) (attrs t j));
         kids = kids t;
         bytes = λ s. shows x (s .place);
         cut = λ s i n. record { place = record { start = s .place .start + i; len = min n (s .place .len - i) }; inside = cut-inside x (s .place) i n (s .inside) };
@@ -84,7 +84,7 @@ module _ (t x : List ℕ) (a : Accepted t x) where
       record {
         name = λ j. refl;
         text = λ j. sym (option-cond (λ (s : Spot x). s .place) (eqb (cell t j 5) 0) none (some (textSpot j)));
-        attr = λ j w. sym (option-maybe (λ (s : Spot x). s .place) none (λ i. some (textSpot i)) (attribute t x j w));
+        attr = λ j w. sym (option-maybe (λ (s : Spot x). s .place) none (λ i. some (textSpot i)) (firstOf (named t x w) (attrs t j)));
         kids = λ j. map-self (kids t j);
         bytes = λ s. refl;
         cut = λ s i n. refl;
