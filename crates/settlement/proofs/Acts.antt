@@ -60,7 +60,7 @@ module _ {N X : Type 0} (L : Lent) (D : Doc N X) where
   preceding-most g n = simp length-append (add-le-add (requiredCode-most L D _ _ n (bytes "IssuerAssignedID")) (date-any L D false _ _ n (bytes "FormattedIssueDateTime")))
 
   -- a child that only changes its lane makes nothing, and pledges one at most
-  quiet-light : {S : Type 0} (s : S) (p : ℕ) (n : N) → p ≤ 1 → Light (weight n) p (quiet {X = X} s)
+  quiet-light : {S : Type 0} (s : S) (p : ℕ) (n : N) → p ≤ 1 → Light {X = X} (weight n) p (quiet s)
   unfolding quiet
   quiet-light s p n h = record { says = omega arith; holds = omega arith; strays = omega arith }
 

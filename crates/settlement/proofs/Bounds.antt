@@ -3,15 +3,12 @@ use mathlib.Core.Bool.{Bool, true, false, cond}
 use mathlib.Core.List.{List, [], _∷_}
 use mathlib.Core.Option.{Option, none, some}
 use Prim.Native.Nat.{ℕ, _+_, _*_, _≤_, min}
-use Prim.Native.String.{String}
 use native.Mathlib.Omega.{arith}
 use native.Mathlib.Nat.{add-le-add, le-trans}
 use lib.ListN.{length, length-append}
 use Rattle.text.specs.Answer.{Answer}
 use Rattle.text.specs.Order.{equal}
-use Rattle.text.specs.Trim.{trimOf}
 use Rattle.text.specs.Utf8.{bytes}
-use Rattle.amount.specs.Decimal.{empty}
 use Rattle.codes.specs.Conformant.{conformant}
 use Rattle.codes.specs.DateFormat.{dateFormat}
 use Rattle.codes.specs.Rules.{inForce}

@@ -9,7 +9,6 @@ use native.Mathlib.Nat.{add-le-add, le-trans}
 use lib.IntN.{ℤ}
 use lib.ListN.{length, length-append}
 use Rattle.text.specs.Utf8.{bytes}
-use Rattle.text.specs.Answer.{Answer}
 use Rattle.report.specs.Rows.{Entry, Transfer, transfer}
 use Rattle.report.specs.declared.message.Message.{Message}
 use Rattle.report.specs.declared.path.Path.{Path}
