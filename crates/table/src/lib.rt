@@ -8,9 +8,11 @@ mod links;
 mod record;
 mod refusal;
 
-pub use links::first_linked;
+pub use links::attribute;
+pub use links::first_child;
+pub use links::first_of;
 pub use links::link;
-pub use links::link_at;
+pub use links::next_of;
 pub use record::Field;
 pub use record::count;
 pub use record::field_of;
