@@ -8,7 +8,7 @@ const LIMIT: u32 = 1000;
 
 // Prints the row of the path that has a number, and answers whether there is one.
 fn print_path(space: &mut [u8], number: u32) -> bool {
-    let n = report::put_path_text(space, 0, number as usize);
+    let n = names::put_path_text(space, 0, number as usize);
     if n == 0 {
         return false;
     }

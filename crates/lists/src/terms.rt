@@ -2,14 +2,14 @@
 use crate::output::print;
 use crate::output::print_cell;
 use crate::output::print_front;
-use report::Term;
+use names::Term;
 
 // More numbers than there are terms.
 const LIMIT: u32 = 1000;
 
 // Prints the group of a term, with an index unless it is BG-22, which is there once.
 fn print_group(space: &mut [u8], number: u32) {
-    let n = report::put_group_name(space, 0, number as usize);
+    let n = names::put_group_name(space, 0, number as usize);
     if n == 0 {
         return;
     }
@@ -22,12 +22,12 @@ fn print_group(space: &mut [u8], number: u32) {
 
 // Prints the row of the term that has a number, and answers whether there is one.
 fn print_term(space: &mut [u8], number: u32) -> bool {
-    if report::put_term_name(space, 0, number as usize) == 0 {
+    if names::put_term_name(space, 0, number as usize) == 0 {
         return false;
     }
     print_cell(number);
     print_group(space, number);
-    let n = report::put_term_name(space, 0, number as usize);
+    let n = names::put_term_name(space, 0, number as usize);
     print_front(space, n);
     print(b" |\n");
     true
