@@ -8,7 +8,7 @@ use lib.Signed.{mag}
 use mir.Syntax.{w64}
 use mir.Val.{toZ, ofZ}
 use Rattle.amount.proofs.Signs.{read64}
-use Rattle.report.specs.Put.{put}
+use Rattle.names.specs.Put.{put}
 use Rattle.report.specs.Placed.{behind, Placed}
 
 -- a signed result of a call, passed on

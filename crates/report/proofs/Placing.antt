@@ -9,9 +9,9 @@ use lib.Dec.{leb}
 use lib.IntN.{ℤ}
 use lib.ListN.{length, set, length-append, length-set}
 use lib.Seq.{set-out}
-use Rattle.report.specs.Put.{put}
+use Rattle.names.specs.Put.{put}
 use Rattle.report.specs.Placed.{behind, Placed}
-use Rattle.report.proofs.Puts.{put-none, put-put, length-put}
+use Rattle.names.proofs.Puts.{put-none, put-put, length-put}
 
 -- the three cases of the place behind a row
 module _ (size at n : ℕ) where

@@ -6,7 +6,7 @@ use Prim.Native.Nat.{ℕ, _+_, _-_}
 use lib.Dec.{leb}
 use lib.IntN.{ℤ}
 use lib.ListN.{length}
-use Rattle.report.specs.Put.{put}
+use Rattle.names.specs.Put.{put}
 
 -- the place behind n numbers that were put at a place of a list: its end where it has no room for all, and the same place where it has none
 unfoldable pub behind : ℕ → ℕ → ℕ → ℕ

@@ -4,15 +4,15 @@ ghost use Rattle.report.specs.Encoding.{entryRow};
 ghost use Rattle.report.specs.Values.{entryOf};
 use crate::list::ENTRY_WIDTH;
 use crate::list::put_row;
-use crate::message::Message;
-use crate::path::Path;
-use crate::term::Term;
 use crate::value::Index;
 use crate::value::Text;
 use crate::value::index_number;
 use crate::value::signed;
 use crate::value::text_length;
 use crate::value::text_start;
+use names::Message;
+use names::Path;
+use names::Term;
 
 // What is said, of which element and term, and the value that it is about.
 pub struct Entry {

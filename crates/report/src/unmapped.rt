@@ -4,11 +4,11 @@ ghost use Rattle.report.specs.Encoding.{unmappedRow};
 ghost use Rattle.report.specs.Values.{unmappedOf};
 use crate::list::UNMAPPED_WIDTH;
 use crate::list::put_row;
-use crate::parent::Parent;
 use crate::value::Place;
 use crate::value::place_length;
 use crate::value::place_start;
 use crate::value::signed;
+use names::Parent;
 
 // The element's parent and its name.
 pub struct Unmapped {

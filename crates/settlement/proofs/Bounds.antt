@@ -14,9 +14,9 @@ use Rattle.codes.specs.DateFormat.{dateFormat}
 use Rattle.codes.specs.Rules.{inForce}
 use Rattle.codes.specs.Vat.{vat}
 use Rattle.codes.specs.declared.rules.Rule.{Rule}
+use Rattle.names.specs.declared.message.Message.{Message}
+use Rattle.names.specs.declared.path.Path.{Path}
 use Rattle.report.specs.Rows.{Entry}
-use Rattle.report.specs.declared.message.Message.{Message}
-use Rattle.report.specs.declared.path.Path.{Path}
 use Rattle.settlement.specs.Document.{Doc, maybe}
 use Rattle.settlement.specs.Shapes.{VatState, Counts}
 use Rattle.settlement.specs.Values.{Lent, Site, grouped, Says, textIn, first, kid, kidText, attribute, missing, answered, wrongCurrency, parsed, inCurrency, amountFrom, amountOf, amount, requiredAmount, requiredCode, percentOf, percent, notVat, dateFrom, otherSpelling, dateIn, date}

@@ -17,11 +17,11 @@ use Rattle.amount.specs.Decimal.{negative, unsigned, digitsOf, pastDigits, poin
 use Rattle.codes.specs.CodeList.{meaning}
 use Rattle.codes.specs.VatPoint.{vatPointDateCodes, vatPointDateCodeOf}
 use Rattle.codes.specs.Rules.{bit, inForce}
+use Rattle.names.specs.declared.message.Message.the-variants as Message
+use Rattle.names.specs.declared.parent.Parent.the-variants as Parent
+use Rattle.names.specs.declared.path.Path.the-variants as Path
+use Rattle.names.specs.declared.term.Term.the-variants as Term
 use Rattle.report.specs.Rows.{transfer}
-use Rattle.report.specs.declared.message.Message.the-variants as Message
-use Rattle.report.specs.declared.parent.Parent.the-variants as Parent
-use Rattle.report.specs.declared.path.Path.the-variants as Path
-use Rattle.report.specs.declared.term.Term.the-variants as Term
 use Rattle.settlement.specs.Kinds.{sameKind, home, meant, kinds, kindNamed}
 use Rattle.settlement.specs.Shapes.{transfers, noTotals}
 use Rattle.settlement.specs.Values.{Lent, entry, trimIn, filled, textIn, ownText, textBytes, first, kid, kidText, attribute, missing, answered, requiredAmount, requiredCode, percent, notVat, amount, date}

@@ -9,9 +9,9 @@ use native.Mathlib.Nat.{add-le-add, le-trans}
 use lib.IntN.{ℤ}
 use lib.ListN.{length, length-append}
 use Rattle.text.specs.Utf8.{bytes}
+use Rattle.names.specs.declared.message.Message.{Message}
+use Rattle.names.specs.declared.path.Path.{Path}
 use Rattle.report.specs.Rows.{Entry, Transfer, transfer}
-use Rattle.report.specs.declared.message.Message.{Message}
-use Rattle.report.specs.declared.path.Path.{Path}
 use Rattle.settlement.specs.Document.{Doc, maybe}
 use Rattle.settlement.specs.Shapes.{Means, unset, card, debit, transfers, Payment, Currencies}
 use Rattle.settlement.specs.Values.{Lent, attribute}

@@ -8,8 +8,8 @@ use Prim.Native.String.{String}
 use Rattle.text.specs.Order.{equal}
 use Rattle.text.specs.Utf8.{bytes}
 use Rattle.text.proofs.Orders.{equal-is, order-is, order-turned, order-trans}
+use Rattle.names.proofs.Numbers.{parent-same}
 use Rattle.report.specs.Rows.{Unmapped}
-use Rattle.report.proofs.Numbers.{parent-same}
 use Rattle.settlement.specs.Document.{Doc}
 use Rattle.settlement.specs.Kinds.{Kind, creditorReference, paymentReference, taxCurrency, invoiceCurrency, payee, paymentMeans, tradeTax, period, allowanceCharge, logisticsCharge, paymentTerms, summation, precedingInvoice, accounting, other, Kind-discrete, sameKind, home, meant, kinds, kindNamed}
 use Rattle.settlement.specs.Values.{Lent}

@@ -9,11 +9,11 @@ use lib.IntN.{ℤ}
 use Rattle.text.specs.Answer.{Answer}
 use Rattle.text.specs.Utf8.{bytes}
 use Rattle.codes.specs.declared.rules.Rule.{Rule}
+use Rattle.names.specs.declared.message.Message.{Message}
+use Rattle.names.specs.declared.message.Message.the-variants as Message
+use Rattle.names.specs.declared.path.Path.{Path}
+use Rattle.names.specs.declared.path.Path.the-variants as Path
 use Rattle.report.specs.Rows.{Entry, Transfer, AllowanceCharge, Unmapped, mapEntry, mapTransfer, mapVat, mapAllowanceCharge, mapPreceding, mapHeld, mapUnmapped}
-use Rattle.report.specs.declared.message.Message.{Message}
-use Rattle.report.specs.declared.message.Message.the-variants as Message
-use Rattle.report.specs.declared.path.Path.{Path}
-use Rattle.report.specs.declared.path.Path.the-variants as Path
 use Rattle.settlement.specs.Document.{Doc, maybe, or}
 use Rattle.settlement.specs.Shapes.{Means, unset, card, debit, transfers, Payment, VatState, Counts, Of, State, blank, Act, Currencies}
 use Rattle.settlement.specs.Values.{Lent, Site, entry, trimIn, filled, textIn, ownText, textBytes, first, kid, kidText, attribute, missing, answered, parsed, inCurrency, amountFrom, amountOf, amount, requiredAmount, requiredCode, percentOf, percent, notVat, dateFrom, otherSpelling, dateIn, date}

@@ -13,7 +13,7 @@ use Rattle.text.specs.Utf8.{encode, bytes, tail, scalar, two, three, four, char
 use Rattle.codes.specs.Rules.{bit, inForce}
 use Rattle.table.specs.Table.{nameOf, textOf, named, kin, below, kids, attrs, firstOf}
 use Rattle.table.specs.Refusals.{ragged, oversized, notRoot, misplaced, beyond, outside, notUtf8, notSettlement, firstFrom, recordRefusal, sizeRefusal, refusal}
-use Rattle.report.specs.Message.{messageNumber}
+use Rattle.names.specs.Message.{messageNumber}
 use Rattle.report.specs.Rows.{Place, Entry}
 use Rattle.settlement.specs.Shapes.{Reading}
 use Rattle.settlement.specs.Values.{Lent, entry, first, kid, kidText, missing, requiredAmount, requiredCode, percent, notVat, amount, date}

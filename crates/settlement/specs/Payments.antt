@@ -4,13 +4,13 @@ use mathlib.Core.List.{List, [], _∷_, _++_, map, foldl}
 use mathlib.Core.Option.{Option, none, some}
 use Prim.Native.String.{String}
 use Rattle.text.specs.Utf8.{bytes}
+use Rattle.names.specs.declared.message.Message.{Message}
+use Rattle.names.specs.declared.message.Message.the-variants as Message
+use Rattle.names.specs.declared.parent.Parent.the-variants as Parent
+use Rattle.names.specs.declared.path.Path.{Path}
+use Rattle.names.specs.declared.path.Path.the-variants as Path
+use Rattle.names.specs.declared.term.Term.the-variants as Term
 use Rattle.report.specs.Rows.{Entry, Transfer, transfer, Unmapped}
-use Rattle.report.specs.declared.message.Message.{Message}
-use Rattle.report.specs.declared.message.Message.the-variants as Message
-use Rattle.report.specs.declared.parent.Parent.the-variants as Parent
-use Rattle.report.specs.declared.path.Path.{Path}
-use Rattle.report.specs.declared.path.Path.the-variants as Path
-use Rattle.report.specs.declared.term.Term.the-variants as Term
 use Rattle.settlement.specs.Document.{Doc, maybe, orElse}
 use Rattle.settlement.specs.Kinds.{meant}
 use Rattle.settlement.specs.Shapes.{Means, unset, card, debit, transfers, Payment, Act}

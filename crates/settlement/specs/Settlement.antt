@@ -6,12 +6,12 @@ use Prim.Native.Nat.{ℕ, suc, Ordering}
 use Rattle.text.specs.Order.{order}
 use Rattle.text.specs.Utf8.{bytes}
 use Rattle.codes.specs.declared.rules.Rule.the-variants as Rule
-use Rattle.report.specs.Parent.{parentNumber}
+use Rattle.names.specs.Parent.{parentNumber}
+use Rattle.names.specs.declared.message.Message.the-variants as Message
+use Rattle.names.specs.declared.parent.Parent.the-variants as Parent
+use Rattle.names.specs.declared.path.Path.the-variants as Path
+use Rattle.names.specs.declared.term.Term.the-variants as Term
 use Rattle.report.specs.Rows.{Entry, Held, preceding, Unmapped}
-use Rattle.report.specs.declared.message.Message.the-variants as Message
-use Rattle.report.specs.declared.parent.Parent.the-variants as Parent
-use Rattle.report.specs.declared.path.Path.the-variants as Path
-use Rattle.report.specs.declared.term.Term.the-variants as Term
 use Rattle.settlement.specs.Document.{Doc, maybe, orElse, or}
 use Rattle.settlement.specs.Kinds.{Kind, creditorReference, paymentReference, taxCurrency, invoiceCurrency, payee, paymentMeans, tradeTax, period, allowanceCharge, logisticsCharge, paymentTerms, summation, precedingInvoice, accounting, other, sameKind, home, kindNamed}
 use Rattle.settlement.specs.Shapes.{Identifier, Payee, Means, unset, card, debit, transfers, PaymentTerms, Period, noTotals, Of, State, blank, Act, Currencies, Terms, Reading}

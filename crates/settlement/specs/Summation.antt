@@ -9,11 +9,11 @@ use Rattle.text.specs.Order.{equal}
 use Rattle.text.specs.Utf8.{bytes}
 use Rattle.amount.specs.Amount.{parsedAmount}
 use Rattle.codes.specs.declared.rules.Rule.the-variants as Rule
+use Rattle.names.specs.declared.message.Message.the-variants as Message
+use Rattle.names.specs.declared.parent.Parent.the-variants as Parent
+use Rattle.names.specs.declared.path.Path.the-variants as Path
+use Rattle.names.specs.declared.term.Term.the-variants as Term
 use Rattle.report.specs.Rows.{Entry, Unmapped}
-use Rattle.report.specs.declared.message.Message.the-variants as Message
-use Rattle.report.specs.declared.parent.Parent.the-variants as Parent
-use Rattle.report.specs.declared.path.Path.the-variants as Path
-use Rattle.report.specs.declared.term.Term.the-variants as Term
 use Rattle.settlement.specs.Document.{Doc, maybe}
 use Rattle.settlement.specs.Kinds.{meant}
 use Rattle.settlement.specs.Shapes.{Totals, Currencies, Act}

@@ -13,12 +13,12 @@ use Rattle.codes.specs.Conformant.{conformant}
 use Rattle.codes.specs.VatPoint.{vatPointDateCodeOf}
 use Rattle.codes.specs.declared.rules.Rule.{Rule}
 use Rattle.codes.specs.declared.rules.Rule.the-variants as Rule
+use Rattle.names.specs.declared.message.Message.the-variants as Message
+use Rattle.names.specs.declared.path.Path.{Path}
+use Rattle.names.specs.declared.path.Path.the-variants as Path
+use Rattle.names.specs.declared.term.Term.{Term}
+use Rattle.names.specs.declared.term.Term.the-variants as Term
 use Rattle.report.specs.Rows.{Held, vat, allowance, charge}
-use Rattle.report.specs.declared.message.Message.the-variants as Message
-use Rattle.report.specs.declared.path.Path.{Path}
-use Rattle.report.specs.declared.path.Path.the-variants as Path
-use Rattle.report.specs.declared.term.Term.{Term}
-use Rattle.report.specs.declared.term.Term.the-variants as Term
 use Rattle.settlement.specs.Document.{Doc, maybe}
 use Rattle.settlement.specs.Shapes.{VatState, Counts, Act}
 use Rattle.settlement.specs.Values.{Lent, site, grouped, Says, entry, ownText, kid, kidText, missing, amount, requiredAmount, requiredCode, percent, notVat, date}

@@ -18,12 +18,12 @@ use Rattle.codes.specs.Rules.{inForce}
 use Rattle.codes.specs.Vat as Code
 use Rattle.codes.specs.declared.rules.Rule.{Rule}
 use Rattle.date.specs.Date.{parsedDate}
+use Rattle.names.specs.declared.message.Message.{Message}
+use Rattle.names.specs.declared.message.Message.the-variants as Message
+use Rattle.names.specs.declared.path.Path.{Path}
+use Rattle.names.specs.declared.term.Term.{Term}
+use Rattle.names.specs.declared.term.Term.the-variants as Term
 use Rattle.report.specs.Rows.{Entry}
-use Rattle.report.specs.declared.message.Message.{Message}
-use Rattle.report.specs.declared.message.Message.the-variants as Message
-use Rattle.report.specs.declared.path.Path.{Path}
-use Rattle.report.specs.declared.term.Term.{Term}
-use Rattle.report.specs.declared.term.Term.the-variants as Term
 use Rattle.settlement.specs.Document.{Doc, maybe, or}
 
 -- what is lent beside the table: mode, rules number, invoice currency and specification identifier (none where empty)

@@ -5,8 +5,8 @@ use borrow.Author.Needs.{needs}
 use mir.Facts.{toZ-ofZ}
 use lib.IntN.{pos}
 use lib.ListN.{length, take}
-use Rattle.report.specs.Put.{put}
-use Rattle.report.proofs.Puts.{put-none, put-turn, put-end, put-length}
+use Rattle.names.specs.Put.{put}
+use Rattle.names.proofs.Puts.{put-none, put-turn, put-end, put-length}
 use Rattle.report.proofs.list.put_numbers.Statement.{statement}
 use Rattle.report.proofs.list.put_numbers.Tie as tie
 
