@@ -28,9 +28,9 @@ SHOWN = 64
 # ---- the model
 
 
-def part(text, start, length):
-    """The bytes at a place, nothing where they are not all in the text."""
-    return text[start:start + length] if start + length <= len(text) else b""
+def clip(text, start, length):
+    """The bytes at a place, those that the text has."""
+    return text[start:start + length]
 
 
 def is_utf8(b):
@@ -59,9 +59,9 @@ def refusal(table, text):
         if any(record(r)[k] + record(r)[k + 1] > len(text) for k in (2, 4)):
             return 7, r
     for r in range(count):
-        if not all(is_utf8(part(text, record(r)[k], record(r)[k + 1])) for k in (2, 4)):
+        if not all(is_utf8(clip(text, record(r)[k], record(r)[k + 1])) for k in (2, 4)):
             return 8, r
-    if part(text, *record(0)[2:4]) != SETTLEMENT:
+    if clip(text, *record(0)[2:4]) != SETTLEMENT:
         return 9, 0
     return None
 
@@ -80,7 +80,7 @@ def answer(table, text):
             found = under(table, kind, r)
             if found:
                 words.append("%d%s%s" % (r, mark, ",".join(map(str, found))))
-    name = lambda r: part(text, table[6 * r + 2], table[6 * r + 3])
+    name = lambda r: clip(text, table[6 * r + 2], table[6 * r + 3])
     for r in range(1, shown):
         same = [k for k in under(table, table[6 * r], table[6 * r + 1]) if name(k) == name(r)]
         words.append("%d=%d" % (r, same[0] if same else 0))

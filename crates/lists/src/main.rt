@@ -1,5 +1,5 @@
 // Prints docs/PATHS.md, docs/TERMS.md and docs/MESSAGES.md one after the other, with the numbers and
-// texts of the crate `report`.
+// texts of the crate `names`.
 mod messages;
 mod output;
 mod paths;

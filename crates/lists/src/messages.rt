@@ -1,7 +1,7 @@
 // docs/MESSAGES.md.
 use crate::output::print;
 use crate::output::print_cell;
-use report::Message;
+use names::Message;
 
 // Prints the row of a message: its number, and the columns meaning, kind, rule and hint.
 fn print_row(m: Message, columns: &[u8]) {

@@ -6,27 +6,24 @@ use crate::output::print_front;
 // More numbers than there are paths.
 const LIMIT: u32 = 1000;
 
-// Prints the row of the path that has a number, and answers whether there is one.
-fn print_path(space: &mut [u8], number: u32) -> bool {
-    let n = report::put_path_text(space, 0, number as usize);
-    if n == 0 {
-        return false;
-    }
+// Prints a path's row: its number, and its text, the first n bytes of space.
+fn print_path(number: u32, space: &[u8], n: usize) {
     print_cell(number);
     print_front(space, n);
     print(b" |\n");
-    true
 }
 
 // Prints the row of each path, up to the first number that has none.
-fn print_rows(space: &mut [u8]) {
+fn print_rows() {
+    let mut space = io::buffer();
     let mut number: u32 = 1;
     while number < LIMIT {
-        if print_path(space, number) {
-            number += 1;
-        } else {
+        let n = names::put_path_text(&mut space, 0, number as usize);
+        if n == 0 {
             return;
         }
+        print_path(number, &space, n);
+        number += 1;
     }
 }
 
@@ -40,6 +37,5 @@ The number of an entry's path, and the path as the Rust prints it, without the n
 |---|---|
 ",
     );
-    let mut space = io::buffer();
-    print_rows(&mut space);
+    print_rows();
 }

@@ -2,46 +2,44 @@
 use crate::output::print;
 use crate::output::print_cell;
 use crate::output::print_front;
-use report::Term;
+use names::Term;
 
 // More numbers than there are terms.
 const LIMIT: u32 = 1000;
 
 // Prints the group of a term, with an index unless it is BG-22, which is there once.
-fn print_group(space: &mut [u8], number: u32) {
-    let n = report::put_group_name(space, 0, number as usize);
+fn print_group(number: u32) {
+    let mut space = io::buffer();
+    let n = names::put_group_name(&mut space, 0, number as usize);
     if n == 0 {
         return;
     }
-    print_front(space, n);
+    print_front(&space, n);
     if Term::Bt115.number() < number {
         print(b"[i]");
     }
     print(b"/");
 }
 
-// Prints the row of the term that has a number, and answers whether there is one.
-fn print_term(space: &mut [u8], number: u32) -> bool {
-    if report::put_term_name(space, 0, number as usize) == 0 {
-        return false;
-    }
+// Prints a term's row: its number, its group, and its name, the first n bytes of space.
+fn print_term(number: u32, space: &[u8], n: usize) {
     print_cell(number);
-    print_group(space, number);
-    let n = report::put_term_name(space, 0, number as usize);
+    print_group(number);
     print_front(space, n);
     print(b" |\n");
-    true
 }
 
 // Prints the row of each term, up to the first number that has none.
-fn print_rows(space: &mut [u8]) {
+fn print_rows() {
+    let mut space = io::buffer();
     let mut number: u32 = 1;
     while number < LIMIT {
-        if print_term(space, number) {
-            number += 1;
-        } else {
+        let n = names::put_term_name(&mut space, 0, number as usize);
+        if n == 0 {
             return;
         }
+        print_term(number, &space, n);
+        number += 1;
     }
 }
 
@@ -55,6 +53,5 @@ The number of an entry's term, and the term as the Rust prints it, where i is th
 |---|---|
 ",
     );
-    let mut space = io::buffer();
-    print_rows(&mut space);
+    print_rows();
 }

@@ -3,11 +3,13 @@ use mathlib.Core.Path.{_≡_, _∙_, ap}
 use mathlib.Core.List.{List, _∷_}
 use Prim.Native.Nat.{ℕ, _<_, _^_}
 use lib.IntN.{ℤ, pos}
+use lib.ListN.{length}
 use lib.Signed.{mag}
 use mir.Syntax.{w64}
 use mir.Val.{toZ, ofZ}
 use Rattle.amount.proofs.Signs.{read64}
-use Rattle.report.specs.Put.{put}
+use Rattle.names.specs.Put.{put}
+use Rattle.report.specs.Placed.{behind, Placed}
 
 -- a signed result of a call, passed on
 pub carried : {z y : ℤ} → mag z < 2 ^ 63 → z ≡ y → toZ w64 (ofZ w64 z) ≡ y
@@ -26,5 +28,5 @@ pub literal : {z : ℤ} {vs ws : List ℤ} → vs ≡ ws → z ∷ vs ≡ z ∷ 
 literal p = rw p
 
 -- a row that is put, once its numbers are known
-pub as-row : (l : List ℤ) (at : ℕ) {l′ vs ws : List ℤ} → vs ≡ ws → l′ ≡ put l at vs → l′ ≡ put l at ws
-as-row l at p e = e ∙ ap (put l at) p
+pub as-row : (l : List ℤ) (at : ℕ) {l′ vs ws : List ℤ} {r : ℕ} → vs ≡ ws → Placed l at vs l′ r → Placed l at ws l′ r
+as-row l at p e = record { now = e .now ∙ ap (put l at) p; end = e .end ∙ ap (λ (vs : List ℤ). behind (length l) at (length vs)) p }

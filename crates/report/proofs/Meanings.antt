@@ -8,7 +8,7 @@ use lib.IntN.{ℤ, pos, pos-ne-negsuc}
 use lib.ListN.{getD}
 use Rattle.report.specs.Rows.{Place, Entry, Transfer, Vat, AllowanceCharge, Preceding, Held, transfer, vat, allowance, charge, preceding, Unmapped, mapEntry, mapTransfer, mapVat, mapAllowanceCharge, mapPreceding, mapHeld, mapUnmapped}
 use Rattle.report.specs.Encoding.{tidy, placeStart, placeLength, textStart, textLength, unscaled, scale, present, hundredths, orAbsent, entryRow, allowanceChargeRow, heldRow, unmappedRow}
-use Rattle.report.proofs.Numbers.{message-same, path-same, term-same, parent-same}
+use Rattle.names.proofs.Numbers.{message-same, path-same, term-same, parent-same}
 
 -- the numbers at one place of two rows
 at : {v w : List ℤ} → v ≡ w → (i : ℕ) → getD v i (pos 0) ≡ getD w i (pos 0)

@@ -6,10 +6,10 @@ use Prim.Native.Nat.{ℕ, _-_}
 use lib.Dec.{eqb}
 use lib.IntN.{ℤ, pos, negsuc}
 use lib.ListN.{length, replicate}
-use Rattle.report.specs.Message.{messageNumber}
-use Rattle.report.specs.Path.{pathNumber}
-use Rattle.report.specs.Term.{termNumber}
-use Rattle.report.specs.Parent.{parentNumber}
+use Rattle.names.specs.Message.{messageNumber}
+use Rattle.names.specs.Path.{pathNumber}
+use Rattle.names.specs.Term.{termNumber}
+use Rattle.names.specs.Parent.{parentNumber}
 use Rattle.report.specs.Rows.{Place, Entry, AllowanceCharge, Held, transfer, vat, allowance, charge, preceding, Unmapped}
 
 -- the numbers of an entry: "Entry, 6"

@@ -1,10 +1,4 @@
-pub mod Put
-pub mod Line
-pub mod Numbered
-pub mod Message
-pub mod Path
-pub mod Term
-pub mod Parent
+pub mod Placed
 pub mod Rows
 pub mod Encoding
 pub mod Values

@@ -2,10 +2,10 @@
 use mathlib.Core.Option.{Option, Option·map}
 use Prim.Native.Nat.{ℕ}
 use lib.IntN.{ℤ}
-use Rattle.report.specs.declared.message.Message.{Message}
-use Rattle.report.specs.declared.path.Path.{Path}
-use Rattle.report.specs.declared.term.Term.{Term}
-use Rattle.report.specs.declared.parent.Parent.{Parent}
+use Rattle.names.specs.declared.message.Message.{Message}
+use Rattle.names.specs.declared.path.Path.{Path}
+use Rattle.names.specs.declared.term.Term.{Term}
+use Rattle.names.specs.declared.parent.Parent.{Parent}
 
 -- len bytes of the lent text from start on
 pub record Place : Type 0 where

@@ -1,6 +1,6 @@
 -- What the code's values mean.
 use mathlib.Core.Option.{Option, none, some}
-use Prim.Native.Nat.{ℕ}
+use Prim.Native.Nat.{ℕ, _+_}
 use lib.IntN.{ℤ}
 use Rattle.report.specs.declared.value.Place as Code
 use Rattle.report.specs.declared.value.Text.{Text}
@@ -21,9 +21,9 @@ use Rattle.report.specs.declared.held.Preceding as CodePreceding
 use Rattle.report.specs.declared.unmapped.Unmapped as CodeUnmapped
 use Rattle.report.specs.Rows.{Place, Entry, Transfer, Vat, AllowanceCharge, Preceding, Unmapped}
 
--- a text's place
+-- a text's place, behind what was trimmed off
 abbrev pub placeOf : Code.Place → Place
-placeOf p = record { start = p .start; len = p .len }
+placeOf p = record { start = p .start + p .skip; len = p .len }
 
 -- absent or at a place
 abbrev pub textOf : Text → Option Place

@@ -1,19 +1,18 @@
 // Entries: what the reader has to say about the settlement.
-ghost use mathlib.Core.Path.{_≡_};
-ghost use Rattle.report.specs.Put.{put};
+ghost use Rattle.report.specs.Placed.{Placed};
 ghost use Rattle.report.specs.Encoding.{entryRow};
 ghost use Rattle.report.specs.Values.{entryOf};
 use crate::list::ENTRY_WIDTH;
 use crate::list::put_row;
-use crate::message::Message;
-use crate::path::Path;
-use crate::term::Term;
 use crate::value::Index;
 use crate::value::Text;
 use crate::value::index_number;
 use crate::value::signed;
 use crate::value::text_length;
 use crate::value::text_start;
+use names::Message;
+use names::Path;
+use names::Term;
 
 // What is said, of which element and term, and the value that it is about.
 pub struct Entry {
@@ -24,9 +23,9 @@ pub struct Entry {
     pub value: Text,
 }
 
-// Puts an entry's row into a list at a place.
-pub fn put_entry(list: &mut [i64], at: usize, e: Entry)
-    ensures { λ r. ⌜ now (list .exit) ≡ put (now (list .entry)) at (entryRow (entryOf e)) ⌝ }
+// Puts an entry's row into a list at a place, and answers where the next goes.
+pub fn put_entry(list: &mut [i64], at: usize, e: Entry) -> usize
+    ensures { λ r. ⌜ Placed (now (list .entry)) at (entryRow (entryOf e)) (now (list .exit)) r ⌝ }
 {
     let message = e.message;
     let path = e.path;
@@ -41,5 +40,5 @@ pub fn put_entry(list: &mut [i64], at: usize, e: Entry)
         text_start(value),
         text_length(value),
     ];
-    put_row(list, at, &row);
+    put_row(list, at, &row)
 }

@@ -1,6 +1,5 @@
 // What the reader holds: credit transfers, VAT breakdowns, allowances, charges and preceding invoices.
-ghost use mathlib.Core.Path.{_≡_};
-ghost use Rattle.report.specs.Put.{put};
+ghost use Rattle.report.specs.Placed.{Placed};
 ghost use Rattle.report.specs.Rows.{transfer, vat, allowance, charge, preceding};
 ghost use Rattle.report.specs.Encoding.{allowanceChargeRow, heldRow};
 ghost use Rattle.report.specs.Values.{transferOf, vatOf, allowanceChargeOf, precedingOf};
@@ -57,9 +56,9 @@ pub struct Preceding {
     pub date: Day,
 }
 
-// Puts a credit transfer's row into a list at a place.
-pub fn put_transfer(list: &mut [i64], at: usize, t: Transfer)
-    ensures { λ r. ⌜ now (list .exit) ≡ put (now (list .entry)) at (heldRow (transfer (transferOf t))) ⌝ }
+// Puts a credit transfer's row into a list at a place, and answers where the next goes.
+pub fn put_transfer(list: &mut [i64], at: usize, t: Transfer) -> usize
+    ensures { λ r. ⌜ Placed (now (list .entry)) at (heldRow (transfer (transferOf t))) (now (list .exit)) r ⌝ }
 {
     let account = t.account;
     let name = t.name;
@@ -80,12 +79,12 @@ pub fn put_transfer(list: &mut [i64], at: usize, t: Transfer)
         0,
         0,
     ];
-    put_row(list, at, &row);
+    put_row(list, at, &row)
 }
 
-// Puts a VAT breakdown's row into a list at a place.
-pub fn put_vat(list: &mut [i64], at: usize, v: Vat)
-    ensures { λ r. ⌜ now (list .exit) ≡ put (now (list .entry)) at (heldRow (vat (vatOf v))) ⌝ }
+// Puts a VAT breakdown's row into a list at a place, and answers where the next goes.
+pub fn put_vat(list: &mut [i64], at: usize, v: Vat) -> usize
+    ensures { λ r. ⌜ Placed (now (list .entry)) at (heldRow (vat (vatOf v))) (now (list .exit)) r ⌝ }
 {
     let taxable = v.taxable;
     let tax = v.tax;
@@ -109,12 +108,12 @@ pub fn put_vat(list: &mut [i64], at: usize, v: Vat)
         0,
         0,
     ];
-    put_row(list, at, &row);
+    put_row(list, at, &row)
 }
 
-// Puts the row of an allowance, kind 3, or a charge, kind 4, into a list at a place.
-fn put_allowance_charge(list: &mut [i64], at: usize, kind: u32, a: AllowanceCharge)
-    ensures { λ r. ⌜ now (list .exit) ≡ put (now (list .entry)) at (allowanceChargeRow kind (allowanceChargeOf a)) ⌝ }
+// Puts the row of an allowance, kind 3, or a charge, kind 4, into a list at a place, and answers where the next goes.
+fn put_allowance_charge(list: &mut [i64], at: usize, kind: u32, a: AllowanceCharge) -> usize
+    ensures { λ r. ⌜ Placed (now (list .entry)) at (allowanceChargeRow kind (allowanceChargeOf a)) (now (list .exit)) r ⌝ }
 {
     let amount = a.amount;
     let base = a.base;
@@ -139,26 +138,26 @@ fn put_allowance_charge(list: &mut [i64], at: usize, kind: u32, a: AllowanceChar
         text_start(code),
         text_length(code),
     ];
-    put_row(list, at, &row);
+    put_row(list, at, &row)
 }
 
-// Puts an allowance's row into a list at a place.
-pub fn put_allowance(list: &mut [i64], at: usize, a: AllowanceCharge)
-    ensures { λ r. ⌜ now (list .exit) ≡ put (now (list .entry)) at (heldRow (allowance (allowanceChargeOf a))) ⌝ }
+// Puts an allowance's row into a list at a place, and answers where the next goes.
+pub fn put_allowance(list: &mut [i64], at: usize, a: AllowanceCharge) -> usize
+    ensures { λ r. ⌜ Placed (now (list .entry)) at (heldRow (allowance (allowanceChargeOf a))) (now (list .exit)) r ⌝ }
 {
-    put_allowance_charge(list, at, 3, a);
+    put_allowance_charge(list, at, 3, a)
 }
 
-// Puts a charge's row into a list at a place.
-pub fn put_charge(list: &mut [i64], at: usize, a: AllowanceCharge)
-    ensures { λ r. ⌜ now (list .exit) ≡ put (now (list .entry)) at (heldRow (charge (allowanceChargeOf a))) ⌝ }
+// Puts a charge's row into a list at a place, and answers where the next goes.
+pub fn put_charge(list: &mut [i64], at: usize, a: AllowanceCharge) -> usize
+    ensures { λ r. ⌜ Placed (now (list .entry)) at (heldRow (charge (allowanceChargeOf a))) (now (list .exit)) r ⌝ }
 {
-    put_allowance_charge(list, at, 4, a);
+    put_allowance_charge(list, at, 4, a)
 }
 
-// Puts a preceding invoice's row into a list at a place.
-pub fn put_preceding(list: &mut [i64], at: usize, p: Preceding)
-    ensures { λ r. ⌜ now (list .exit) ≡ put (now (list .entry)) at (heldRow (preceding (precedingOf p))) ⌝ }
+// Puts a preceding invoice's row into a list at a place, and answers where the next goes.
+pub fn put_preceding(list: &mut [i64], at: usize, p: Preceding) -> usize
+    ensures { λ r. ⌜ Placed (now (list .entry)) at (heldRow (preceding (precedingOf p))) (now (list .exit)) r ⌝ }
 {
     let reference = p.reference;
     let date = p.date;
@@ -178,5 +177,5 @@ pub fn put_preceding(list: &mut [i64], at: usize, p: Preceding)
         0,
         0,
     ];
-    put_row(list, at, &row);
+    put_row(list, at, &row)
 }

@@ -1,17 +1,11 @@
 // The rows of a reading: what the reader holds, what it has to say and which elements it does not map,
-// each a fixed count of signed numbers in a lent list; and the numbered messages, paths and terms that
-// entries name.
+// each a fixed count of signed numbers in a lent list.
 //
 // Every function takes all numbers and lists of any length: what has no room is left out. No public
 // function has a `requires`, and the crate assumes nothing of its own.
 mod entry;
 mod held;
-mod line;
 mod list;
-mod message;
-mod parent;
-mod path;
-mod term;
 mod unmapped;
 mod value;
 
@@ -29,14 +23,6 @@ pub use held::put_vat;
 pub use list::ENTRY_WIDTH;
 pub use list::HELD_WIDTH;
 pub use list::UNMAPPED_WIDTH;
-pub use message::Message;
-pub use parent::Parent;
-pub use parent::put_parent_name;
-pub use path::Path;
-pub use path::put_path_text;
-pub use term::Term;
-pub use term::put_group_name;
-pub use term::put_term_name;
 pub use unmapped::Unmapped;
 pub use unmapped::put_unmapped;
 pub use value::Amount;

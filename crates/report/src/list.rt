@@ -1,9 +1,11 @@
-// Numbers and bytes put into a lent list, each where there is room: a list that is too short takes
-// what fits, and nothing else in it changes.
+// Numbers put into a lent list, each where there is room: a list that is too short takes what fits, and
+// nothing else in it changes.
 ghost use mathlib.Core.Path.{_≡_};
 ghost use Prim.Native.Nat.{_+_};
 ghost use lib.ListN.{set};
-ghost use Rattle.report.specs.Put.{put, Wrote};
+ghost use Rattle.names.specs.Put.{put};
+ghost use Rattle.report.specs.Placed as placed;
+ghost use Rattle.report.specs.Placed.{Placed};
 
 // The numbers of an entry, of what is held and of an unmapped element.
 pub const ENTRY_WIDTH: usize = 6;
@@ -25,38 +27,34 @@ fn put_number(list: &mut [i64], at: usize, i: usize, v: i64)
     list[at + i] = v;
 }
 
-// Puts a row's numbers into a list from a place on.
-pub(crate) fn put_row(list: &mut [i64], at: usize, row: &[i64])
-    ensures { λ r. ⌜ now (list .exit) ≡ put (now (list .entry)) at (now (row .entry)) ⌝ }
+// Puts numbers into a list from a place on.
+fn put_numbers(list: &mut [i64], at: usize, numbers: &[i64])
+    ensures { λ r. ⌜ now (list .exit) ≡ put (now (list .entry)) at (now (numbers .entry)) ⌝ }
 {
     let mut i = 0;
-    while i < row.len() {
-        put_number(list, at, i, row[i]);
+    while i < numbers.len() {
+        put_number(list, at, i, numbers[i]);
         i += 1;
     }
 }
 
-// Puts b at place at + i, if the list has it.
-fn put_byte(list: &mut [u8], at: usize, i: usize, b: u8)
-    ensures { λ r. ⌜ now (list .exit) ≡ set (now (list .entry)) (at + i) b ⌝ }
+// The place behind n numbers put at a place of a list of this size.
+fn behind(size: usize, at: usize, n: usize) -> usize
+    ensures { λ r. ⌜ r ≡ placed.behind size at n ⌝ }
 {
-    if list.len() <= at {
-        return;
+    if size <= at {
+        return at;
     }
-    if list.len() - at <= i {
-        return;
+    if size - at <= n {
+        return size;
     }
-    list[at + i] = b;
+    at + n
 }
 
-// Puts a text's bytes into a list from a place on, and answers the text's length.
-pub(crate) fn put_bytes(list: &mut [u8], at: usize, text: &[u8]) -> usize
-    ensures { λ r. ⌜ Wrote (now (list .entry)) at (now (text .entry)) (now (list .exit)) r ⌝ }
+// Puts a row into a list at a place, and answers where the next goes.
+pub(crate) fn put_row(list: &mut [i64], at: usize, row: &[i64]) -> usize
+    ensures { λ r. ⌜ Placed (now (list .entry)) at (now (row .entry)) (now (list .exit)) r ⌝ }
 {
-    let mut i = 0;
-    while i < text.len() {
-        put_byte(list, at, i, text[i]);
-        i += 1;
-    }
-    i
+    put_numbers(list, at, row);
+    behind(list.len(), at, row.len())
 }

@@ -1,15 +1,14 @@
 // Elements that the reader does not map.
-ghost use mathlib.Core.Path.{_≡_};
-ghost use Rattle.report.specs.Put.{put};
+ghost use Rattle.report.specs.Placed.{Placed};
 ghost use Rattle.report.specs.Encoding.{unmappedRow};
 ghost use Rattle.report.specs.Values.{unmappedOf};
 use crate::list::UNMAPPED_WIDTH;
 use crate::list::put_row;
-use crate::parent::Parent;
 use crate::value::Place;
 use crate::value::place_length;
 use crate::value::place_start;
 use crate::value::signed;
+use names::Parent;
 
 // The element's parent and its name.
 pub struct Unmapped {
@@ -17,9 +16,9 @@ pub struct Unmapped {
     pub name: Place,
 }
 
-// Puts an unmapped element's row into a list at a place.
-pub fn put_unmapped(list: &mut [i64], at: usize, u: Unmapped)
-    ensures { λ r. ⌜ now (list .exit) ≡ put (now (list .entry)) at (unmappedRow (unmappedOf u)) ⌝ }
+// Puts an unmapped element's row into a list at a place, and answers where the next goes.
+pub fn put_unmapped(list: &mut [i64], at: usize, u: Unmapped) -> usize
+    ensures { λ r. ⌜ Placed (now (list .entry)) at (unmappedRow (unmappedOf u)) (now (list .exit)) r ⌝ }
 {
     let parent = u.parent;
     let name = u.name;
@@ -28,5 +27,5 @@ pub fn put_unmapped(list: &mut [i64], at: usize, u: Unmapped)
         place_start(name),
         place_length(name),
     ];
-    put_row(list, at, &row);
+    put_row(list, at, &row)
 }

@@ -1,15 +1,19 @@
 // What a row's fields hold, and the signed numbers that stand for it. Only here does an amount or a
 // percentage become a number.
 ghost use mathlib.Core.Path.{_≡_};
+ghost use Prim.Native.Nat.{_+_};
 ghost use lib.IntN.{pos};
 ghost use Rattle.report.specs.Encoding.{placeStart, placeLength, textStart, textLength, unscaled, scale, present, hundredths, orAbsent};
 ghost use Rattle.report.specs.Values.{placeOf, textOf, amountOf, percentOf, dayOf, indexOf};
 use amount::InvoiceAmount;
 use amount::Percentage;
 
-// A text's place in the lent text.
+// A text's place in the lent text: where the record's text starts, how many bytes were trimmed off
+// its front, and the length of what is left. The two are not added, so that a place has no limit
+// beyond that of a record's numbers.
 pub struct Place {
     pub start: u32,
+    pub skip: u32,
     pub len: u32,
 }
 
@@ -49,6 +53,12 @@ pub(crate) fn signed(n: u32) -> i64
     n as i64
 }
 
+fn sum(a: u32, b: u32) -> i64
+    ensures { λ r. ⌜ r ≡ pos (a + b) ⌝ }
+{
+    (a as u64 + b as u64) as i64
+}
+
 // An empty text starts at 0, wherever it was cut.
 pub(crate) fn place_start(p: Place) -> i64
     ensures { λ r. ⌜ r ≡ placeStart (placeOf p) ⌝ }
@@ -57,7 +67,7 @@ pub(crate) fn place_start(p: Place) -> i64
     if empty {
         return 0;
     }
-    signed(p.start)
+    sum(p.start, p.skip)
 }
 
 pub(crate) fn place_length(p: Place) -> i64

@@ -10,11 +10,11 @@ use Rattle.text.specs.Trim.{allWhite, before, through, keptOf, trimmed, trimOf}
 use Rattle.text.specs.Utf8.{encode, bytes, tail, scalar, two, three, four, charOf, front, chars, allGood, utf8}
 use Rattle.text.specs.WhiteSpace.{inRanges, whiteSpaces, whiteSpace, white}
 use Rattle.codes.specs.Rules.{bit, inForce}
+use Rattle.names.specs.declared.parent.Parent.the-variants as Parent
 use Rattle.report.specs.Rows.{transfer}
-use Rattle.report.specs.declared.parent.Parent.the-variants as Parent
 use Rattle.settlement.specs.Kinds.{sameKind, home, meant, kinds, kindNamed}
 use Rattle.settlement.specs.Shapes.{transfers, noTotals}
-use Rattle.settlement.specs.Values.{trimIn, filled, textIn, ownText, first, kid, kidText, missing}
+use Rattle.settlement.specs.Values.{trimIn, filled, textIn, ownText, textBytes, first, kid, kidText, missing}
 use Rattle.settlement.specs.Payments.{parts, partOf, accountOf, joined, creditor, part, paying, payingStart, paid, paymentMeansOf}
 use Rattle.settlement.specs.Walk.{said, insert, insertAll}
 use Rattle.settlement.specs.Settlement.{quiet, own, kindOf, soFar, unseen, seen, act, step, saysOf, holdsOf, straysOf, besides, debited, debitOf, lateOf, termsOf, after, readingOf, reading}
@@ -48,5 +48,5 @@ pub account-and-foo : reading lent treeDoc (settlement (leaf "InvoiceCurrencyCod
       entries = [];
       unmapped = record { parent = Parent.Settlement; name = bytes "Foo" } ∷ [];
     }
-unfolding cut equal bytes encode utf8 chars front charOf two three four tail scalar allGood within inRanges whiteSpaces whiteSpace white allWhite before through keptOf trimmed trimOf sameKind home meant kinds kindNamed trimIn filled textIn ownText first kid kidText missing bit inForce parts partOf accountOf joined creditor part paying payingStart paid paymentMeansOf said insert insertAll quiet own kindOf soFar unseen seen act step saysOf holdsOf straysOf besides debited debitOf lateOf termsOf after readingOf reading treeDoc
+unfolding cut equal bytes encode utf8 chars front charOf two three four tail scalar allGood within inRanges whiteSpaces whiteSpace white allWhite before through keptOf trimmed trimOf sameKind home meant kinds kindNamed trimIn filled textIn ownText textBytes first kid kidText missing bit inForce parts partOf accountOf joined creditor part paying payingStart paid paymentMeansOf said insert insertAll quiet own kindOf soFar unseen seen act step saysOf holdsOf straysOf besides debited debitOf lateOf termsOf after readingOf reading treeDoc
 account-and-foo = refl

@@ -31,31 +31,31 @@ other-one X e = subst (λ (l : Kind). IsProp (Of X l)) e Unit-prop
 module _ {N X : Type 0} (L : Lent) (D : Doc N X) where
   -- different lanes, or both unmapped
   abbrev pub Lanes : N → N → Type 0
-  Lanes x y = (sameKind (home (kindOf L D x)) (home (kindOf L D y)) ≡ false) ⊎ ((kindOf L D x ≡ other) × (kindOf L D y ≡ other))
+  Lanes x y = (sameKind (home (kindOf D x)) (home (kindOf D y)) ≡ false) ⊎ ((kindOf D x ≡ other) × (kindOf D y ≡ other))
 
   -- neither currency's
   abbrev pub NoCurrency : N → Type 0
-  NoCurrency y = (sameKind invoiceCurrency (home (kindOf L D y)) ≡ false) × (sameKind taxCurrency (home (kindOf L D y)) ≡ false)
+  NoCurrency y = (sameKind invoiceCurrency (home (kindOf D y)) ≡ false) × (sameKind taxCurrency (home (kindOf D y)) ≡ false)
 
   -- two children that may change places: they have lanes of their own, and a summation's other is no currency
   pub record Free (x y : N) : Type 0 where
     pub lanes : Lanes x y
-    pub money : sameKind (kindOf L D x) summation ≡ true → NoCurrency y
+    pub money : sameKind (kindOf D x) summation ≡ true → NoCurrency y
 
   -- a child leaves every other lane alone
-  pub frame : (l : Kind) (s : State X) (n : N) → sameKind l (home (kindOf L D n)) ≡ false → step L D s n l ≡ s l
+  pub frame : (l : Kind) (s : State X) (n : N) → sameKind l (home (kindOf D n)) ≡ false → step L D s n l ≡ s l
   unfolding step
   frame l s n e = rw e
 
-  pub own-lane : (l : Kind) (s : State X) (n : N) → sameKind l (home (kindOf L D n)) ≡ true → step L D s n l ≡ act L D l s n .next
+  pub own-lane : (l : Kind) (s : State X) (n : N) → sameKind l (home (kindOf D n)) ≡ true → step L D s n l ≡ act L D l s n .next
   unfolding step
   own-lane l s n e = rw e
 
-  seen-same : (x y : N) → Free x y → (s : State X) → seen L D (kindOf L D x) (step L D s y) ≡ seen L D (kindOf L D x) s
+  seen-same : (x y : N) → Free x y → (s : State X) → seen (kindOf D x) (step L D s y) ≡ seen (kindOf D x) s
   unfolding seen soFar
-  seen-same x y f s = go (sameKind (kindOf L D x) summation) (f .money)
+  seen-same x y f s = go (sameKind (kindOf D x) summation) (f .money)
     where
-      go : (b : Bool) → (b ≡ true → NoCurrency y) → cond b (soFar L D (step L D s y)) (unseen L D) ≡ cond b (soFar L D s) (unseen L D)
+      go : (b : Bool) → (b ≡ true → NoCurrency y) → cond b (soFar (step L D s y)) (unseen) ≡ cond b (soFar s) (unseen)
       go true h = rw (frame invoiceCurrency s y (h refl .0), frame taxCurrency s y (h refl .1))
       go false h = refl
 
@@ -64,51 +64,51 @@ module _ {N X : Type 0} (L : Lent) (D : Doc N X) where
   act-same x y f l s e = rw (seen-same x y f s, e)
 
   -- the lane of a child, after the other one
-  still : (x y : N) → Free x y → (s : State X) → step L D s y (home (kindOf L D x)) ≡ s (home (kindOf L D x))
+  still : (x y : N) → Free x y → (s : State X) → step L D s y (home (kindOf D x)) ≡ s (home (kindOf D x))
   still x y f s = go (f .lanes)
     where
-      go : Lanes x y → step L D s y (home (kindOf L D x)) ≡ s (home (kindOf L D x))
-      go (inl e) = frame (home (kindOf L D x)) s y e
+      go : Lanes x y → step L D s y (home (kindOf D x)) ≡ s (home (kindOf D x))
+      go (inl e) = frame (home (kindOf D x)) s y e
       go (inr e) = other-one X (sym (home-other (e .0))) _ _
 
-  acts-same : (x y : N) → Free x y → (s : State X) → act L D (home (kindOf L D x)) (step L D s y) x ≡ act L D (home (kindOf L D x)) s x
-  acts-same x y f s = act-same x y f (home (kindOf L D x)) s (still x y f s)
+  acts-same : (x y : N) → Free x y → (s : State X) → act L D (home (kindOf D x)) (step L D s y) x ≡ act L D (home (kindOf D x)) s x
+  acts-same x y f s = act-same x y f (home (kindOf D x)) s (still x y f s)
 
   says-same : (x y : N) → Free x y → (s : State X) → saysOf L D (step L D s y) x ≡ saysOf L D s x
   unfolding saysOf
-  says-same x y f s = ap (λ (a : Act X (Of X (home (kindOf L D x)))). a .says) (acts-same x y f s)
+  says-same x y f s = ap (λ (a : Act X (Of X (home (kindOf D x)))). a .says) (acts-same x y f s)
 
   holds-same : (x y : N) → Free x y → (s : State X) → holdsOf L D (step L D s y) x ≡ holdsOf L D s x
   unfolding holdsOf
-  holds-same x y f s = ap (λ (a : Act X (Of X (home (kindOf L D x)))). a .holds) (acts-same x y f s)
+  holds-same x y f s = ap (λ (a : Act X (Of X (home (kindOf D x)))). a .holds) (acts-same x y f s)
 
   strays-same : (x y : N) → Free x y → (s : State X) → straysOf L D (step L D s y) x ≡ straysOf L D s x
   unfolding straysOf
-  strays-same x y f s = ap (λ (a : Act X (Of X (home (kindOf L D x)))). a .strays) (acts-same x y f s)
+  strays-same x y f s = ap (λ (a : Act X (Of X (home (kindOf D x)))). a .strays) (acts-same x y f s)
 
   -- one lane after both, where only the first is at home there
-  one-home : (x y : N) (f : Free x y) (s : State X) (l : Kind) → sameKind l (home (kindOf L D x)) ≡ true → sameKind l (home (kindOf L D y)) ≡ false → step L D (step L D s x) y l ≡ step L D (step L D s y) x l
+  one-home : (x y : N) (f : Free x y) (s : State X) (l : Kind) → sameKind l (home (kindOf D x)) ≡ true → sameKind l (home (kindOf D y)) ≡ false → step L D (step L D s x) y l ≡ step L D (step L D s y) x l
   one-home x y f s l p q =
       frame l (step L D s x) y q
       ∙ own-lane l s x p
       ∙ ap (λ (a : Act X (Of X l)). a .next) (sym (act-same x y f l s (frame l s y q)))
       ∙ sym (own-lane l (step L D s y) x p)
 
-  both-home : (x y : N) (f : Free x y) (l : Kind) → sameKind l (home (kindOf L D x)) ≡ true → sameKind l (home (kindOf L D y)) ≡ true → other ≡ l
+  both-home : (x y : N) (f : Free x y) (l : Kind) → sameKind l (home (kindOf D x)) ≡ true → sameKind l (home (kindOf D y)) ≡ true → other ≡ l
   both-home x y f l p q = go (f .lanes)
     where
       go : Lanes x y → other ≡ l
       go (inl e) = absurd (true≢false (sym (sameKind-refl l) ∙ ap₂ sameKind (sameKind-eq _ _ p) (sameKind-eq _ _ q) ∙ e))
       go (inr e) = sym (sameKind-eq _ _ p ∙ home-other (e .0))
 
-  lane-swap : (x y : N) (f : Free x y) (g : Free y x) (s : State X) (l : Kind) (a b : Bool) → sameKind l (home (kindOf L D x)) ≡ a → sameKind l (home (kindOf L D y)) ≡ b → step L D (step L D s x) y l ≡ step L D (step L D s y) x l
+  lane-swap : (x y : N) (f : Free x y) (g : Free y x) (s : State X) (l : Kind) (a b : Bool) → sameKind l (home (kindOf D x)) ≡ a → sameKind l (home (kindOf D y)) ≡ b → step L D (step L D s x) y l ≡ step L D (step L D s y) x l
   lane-swap x y f g s l true true p q = other-one X (both-home x y f l p q) _ _
   lane-swap x y f g s l true false p q = one-home x y f s l p q
   lane-swap x y f g s l false true p q = sym (one-home y x g s l q p)
   lane-swap x y f g s l false false p q = frame l (step L D s x) y q ∙ frame l s x p ∙ sym (frame l (step L D s y) x p ∙ frame l s y q)
 
   apart : (x y : N) → Free x y → Free y x → Apart (step L D) x y
-  apart x y f g = record { state = λ s. fun-ext (λ l. lane-swap x y f g s l (sameKind l (home (kindOf L D x))) (sameKind l (home (kindOf L D y))) refl refl) }
+  apart x y f g = record { state = λ s. fun-ext (λ l. lane-swap x y f g s l (sameKind l (home (kindOf D x))) (sameKind l (home (kindOf D y))) refl refl) }
 
 -- the lane that makes the rows of a kind
 unfoldable pub rowLane : ℕ → Kind
@@ -144,10 +144,10 @@ module _ {N X : Type 0} (L : Lent) (D : Doc N X) where
   unfolding logistics logisticsRead logisticsLeft allowanceOrCharge allowanceChargeOf rowLane
   charge-rows s n true = go (conformant (L .identifier))
     where
-      go : (c : Bool) → Tagged allowanceCharge (cond c (logisticsRead L D s n) (logisticsLeft L D s) .holds)
+      go : (c : Bool) → Tagged allowanceCharge (cond c (logisticsRead L D s n) (logisticsLeft s) .holds)
       go true = (refl, tt)
       go false = tt
-  charge-rows s n false = (tagged-charge (isCharge L D n .0) _, tt)
+  charge-rows s n false = (tagged-charge (isCharge D n .0) _, tt)
 
   own-rows : (l : Kind) (b : Bool) (s : Of X l) (cur : Currencies X) (n : N) → Tagged l (own L D l b s cur n .holds)
   unfolding own quiet paymentMeansOf tradeTaxOf periodOf paymentTermsOf totals precedingOf rowLane
@@ -156,7 +156,7 @@ module _ {N X : Type 0} (L : Lent) (D : Doc N X) where
   own-rows taxCurrency b s cur n = tt
   own-rows invoiceCurrency b s cur n = tt
   own-rows payee b s cur n = tt
-  own-rows paymentMeans b s cur n = tagged-transfers (paid L D s n .rows)
+  own-rows paymentMeans b s cur n = tagged-transfers (paid D s n .rows)
   own-rows tradeTax b s cur n = (refl, tt)
   own-rows period b s cur n = tt
   own-rows allowanceCharge b s cur n = charge-rows s n b
@@ -167,31 +167,31 @@ module _ {N X : Type 0} (L : Lent) (D : Doc N X) where
   own-rows accounting b s cur n = tt
   own-rows other b s cur n = tt
 
-  pub held-rows : (s : State X) (n : N) → Tagged (home (kindOf L D n)) (holdsOf L D s n)
+  pub held-rows : (s : State X) (n : N) → Tagged (home (kindOf D n)) (holdsOf L D s n)
   unfolding holdsOf act
-  held-rows s n = own-rows (home (kindOf L D n)) _ _ _ n
+  held-rows s n = own-rows (home (kindOf D n)) _ _ _ n
 
   other-held : {l : Kind} → other ≡ l → (b : Bool) (s : Of X l) (cur : Currencies X) (n : N) → own L D l b s cur n .holds ≡ []
   unfolding own
   other-held e = subst (λ (l : Kind). (b : Bool) (s : Of X l) (cur : Currencies X) (n : N) → own L D l b s cur n .holds ≡ []) e (λ b s cur n. refl)
 
-  other-rows : (s : State X) (n : N) → kindOf L D n ≡ other → holdsOf L D s n ≡ []
+  other-rows : (s : State X) (n : N) → kindOf D n ≡ other → holdsOf L D s n ≡ []
   unfolding holdsOf act
   other-rows s n e = other-held (sym (home-other e)) _ _ _ n
 
   -- at most one of the two makes rows of the kind j
   held-one : (x y : N) (f : Free L D x y) (s : State X) (j : ℕ) → (ofKind j (holdsOf L D s x) ≡ []) ⊎ (ofKind j (holdsOf L D s y) ≡ [])
   unfolding ofKind keep
-  held-one x y f s j = go (Kind-discrete (rowLane j) (home (kindOf L D x))) (f .lanes)
+  held-one x y f s j = go (Kind-discrete (rowLane j) (home (kindOf D x))) (f .lanes)
     where
-      go : Dec (rowLane j ≡ home (kindOf L D x)) → Lanes L D x y → (ofKind j (holdsOf L D s x) ≡ []) ⊎ (ofKind j (holdsOf L D s y) ≡ [])
-      go (no h) o = inl (tagged-none j (home (kindOf L D x)) (holdsOf L D s x) (held-rows s x) h)
+      go : Dec (rowLane j ≡ home (kindOf D x)) → Lanes L D x y → (ofKind j (holdsOf L D s x) ≡ []) ⊎ (ofKind j (holdsOf L D s y) ≡ [])
+      go (no h) o = inl (tagged-none j (home (kindOf D x)) (holdsOf L D s x) (held-rows s x) h)
       go (yes h) (inl e) =
           inr
-          (tagged-none j (home (kindOf L D y)) (holdsOf L D s y) (held-rows s y) (λ i. true≢false (sym (sameKind-refl (home (kindOf L D x))) ∙ ap (sameKind (home (kindOf L D x))) (sym h ∙ i) ∙ e)))
+          (tagged-none j (home (kindOf D y)) (holdsOf L D s y) (held-rows s y) (λ i. true≢false (sym (sameKind-refl (home (kindOf D x))) ∙ ap (sameKind (home (kindOf D x))) (sym h ∙ i) ∙ e)))
       go (yes h) (inr e) = inl (ap (ofKind j) (other-rows s x (e .0)))
 
-  module _ (t : Total (unmappedOrder L D)) (x y : N) (f : Free L D x y) (g : Free L D y x) (pre post : List N) where
+  module _ (t : Total (unmappedOrder D)) (x y : N) (f : Free L D x y) (g : Free L D y x) (pre post : List N) where
     same-state : after L D (pre ++ x ∷ y ∷ post) ≡ after L D (pre ++ y ∷ x ∷ post)
     unfolding after
     same-state = run-swap (step L D) (saysOf L D) x y (apart L D x y f g) (blank X) pre post
@@ -201,10 +201,10 @@ module _ {N X : Type 0} (L : Lent) (D : Doc N X) where
     unfolding readingOf ofKind
     exchange =
         record {
-          terms = ap (termsOf L D) same-state;
+          terms = ap (termsOf) same-state;
           held = λ j. crossed-keep _ (crossed (step L D) (holdsOf L D) x y ax (record { fst = holds-same L D x y f; snd = holds-same L D y x g }) (blank X) pre post) (held-one x y f (foldl (step L D) (blank X) pre) j);
           unmapped =
-              crossed-sorted (unmappedOrder L D) t [] (crossed (step L D) (straysOf L D) x y ax (record { fst = strays-same L D x y f; snd = strays-same L D y x g }) (blank X) pre post);
+              crossed-sorted (unmappedOrder D) t [] (crossed (step L D) (straysOf L D) x y ax (record { fst = strays-same L D x y f; snd = strays-same L D y x g }) (blank X) pre post);
           entries =
               rw same-state
               (Perm·append-right _ (crossed-perm (crossed (step L D) (saysOf L D) x y ax (record { fst = says-same L D x y f; snd = says-same L D y x g }) (blank X) pre post)));

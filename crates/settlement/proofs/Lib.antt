@@ -11,6 +11,13 @@ pub mod LastWins
 pub mod Witness
 pub mod Examples
 pub mod UnmappedSet
+pub mod Counting
+pub mod Bounds
+pub mod InnerBounds
+pub mod Acts
+pub mod Outcomes
+pub mod Room
+pub mod Spans
 pub mod PlainValues
 pub mod HeldRows
 pub mod PaymentParts

@@ -3,8 +3,8 @@ use mathlib.Core.Path.{_≡_, refl}
 use mathlib.Core.Bool.{Bool, true, false, cond}
 use mathlib.Core.List.{List, [], _∷_, _++_, map}
 use mathlib.Core.Option.{Option, none, some, Option·map}
+use Rattle.names.specs.declared.parent.Parent.{Parent}
 use Rattle.report.specs.Rows.{Entry, Transfer, AllowanceCharge, transfer, allowance, charge, mapEntry, mapTransfer, mapAllowanceCharge, mapHeld, mapUnmapped}
-use Rattle.report.specs.declared.parent.Parent.{Parent}
 use Rattle.settlement.specs.Document.{maybe, orElse, or}
 use Rattle.settlement.specs.Shapes.{Act}
 use Rattle.settlement.specs.Values.{Says}

@@ -9,7 +9,7 @@ use Rattle.text.specs.Order.{equal}
 use Rattle.text.specs.Utf8.{bytes, encode}
 use Rattle.text.proofs.Orders.{equal-is, equal-refl, order-is, order-turned, order-trans}
 use Rattle.report.specs.Rows.{Unmapped}
-use Rattle.report.proofs.Numbers.{parent-same}
+use Rattle.names.proofs.Numbers.{parent-same}
 use Rattle.settlement.specs.Document.{Doc}
 use Rattle.settlement.specs.Kinds.{Kind, creditorReference, paymentReference, taxCurrency, invoiceCurrency, payee, paymentMeans, tradeTax, period, allowanceCharge, logisticsCharge, paymentTerms, summation, precedingInvoice, accounting, other, Kind-discrete, isYes, sameKind, home, meant, kinds, kindNamed}
 use Rattle.settlement.specs.Values.{Lent}
@@ -121,7 +121,7 @@ module _ {N X : Type 0} (L : Lent) (D : Doc N X) where
   name n = D .bytes (D .name n)
 
   -- a kind that is read has its name
-  pub kind-name : (n : N) (k : Kind) → kindOf L D n ≡ k → k ≢ other → name n ≡ bytes (kindName k)
+  pub kind-name : (n : N) (k : Kind) → kindOf D n ≡ k → k ≢ other → name n ≡ bytes (kindName k)
   unfolding kindOf kindNamed
   kind-name n k e d = go (meant-name other kindName kinds kinds-named (name n))
     where
@@ -130,7 +130,7 @@ module _ {N X : Type 0} (L : Lent) (D : Doc N X) where
       go (inr s) = s ∙ ap (λ (i : Kind). bytes (kindName i)) e
 
   -- a child is of a kind that is read just where it has its name
-  pub kind-test : (k : Kind) → kindNamed (bytes (kindName k)) ≡ k → k ≢ other → (n : N) → sameKind (kindOf L D n) k ≡ isNamed D (kindName k) n
+  pub kind-test : (k : Kind) → kindNamed (bytes (kindName k)) ≡ k → k ≢ other → (n : N) → sameKind (kindOf D n) k ≡ isNamed D (kindName k) n
   unfolding isNamed kindOf kindNamed sameKind
   kind-test k e d n = meant-test other kindName Kind-discrete kinds kinds-named k e d (name n)
 
@@ -142,44 +142,44 @@ module _ {N X : Type 0} (L : Lent) (D : Doc N X) where
       go (inl p) = sym p ∙ e
       go (inr p) = absurd (d (sym e ∙ ap home p))
 
-  pub at-home : (l : Kind) → Own l → (n : N) → sameKind l (home (kindOf L D n)) ≡ isNamed D (kindName l) n
+  pub at-home : (l : Kind) → Own l → (n : N) → sameKind l (home (kindOf D n)) ≡ isNamed D (kindName l) n
   at-home l o n =
-      same-test (sameKind l (home (kindOf L D n))) (sameKind (kindOf L D n) l)
-      (λ h. rw (home-is (kindOf L D n) l (sym (sameKind-eq l (home (kindOf L D n)) h)) (o .alone)) (sameKind-refl l))
-      (λ h. rw (sameKind-eq (kindOf L D n) l h, o .home) (sameKind-refl l))
+      same-test (sameKind l (home (kindOf D n))) (sameKind (kindOf D n) l)
+      (λ h. rw (home-is (kindOf D n) l (sym (sameKind-eq l (home (kindOf D n)) h)) (o .alone)) (sameKind-refl l))
+      (λ h. rw (sameKind-eq (kindOf D n) l h, o .home) (sameKind-refl l))
       ∙ kind-test l (o .named) (o .read) n
 
   -- two names of one kind: both are unmapped
-  both-other : (x y : N) → kindOf L D x ≡ kindOf L D y → name x ≢ name y → kindOf L D x ≡ other
-  both-other x y e d = go (Kind-discrete (kindOf L D x) other)
+  both-other : (x y : N) → kindOf D x ≡ kindOf D y → name x ≢ name y → kindOf D x ≡ other
+  both-other x y e d = go (Kind-discrete (kindOf D x) other)
     where
-      go : Dec (kindOf L D x ≡ other) → kindOf L D x ≡ other
+      go : Dec (kindOf D x ≡ other) → kindOf D x ≡ other
       go (yes p) = p
-      go (no p) = absurd (d (kind-name x (kindOf L D x) refl p ∙ sym (kind-name y (kindOf L D x) (sym e) p)))
+      go (no p) = absurd (d (kind-name x (kindOf D x) refl p ∙ sym (kind-name y (kindOf D x) (sym e) p)))
 
-  charges : (x y : N) → Charges (kindOf L D x) (kindOf L D y) → Pair (name x) (name y)
+  charges : (x y : N) → Charges (kindOf D x) (kindOf D y) → Pair (name x) (name y)
   charges x y c = inr (inr (kind-name x allowanceCharge (c .fst) (λ e. true≢false cc), kind-name y logisticsCharge (c .snd) (λ e. true≢false cc)))
 
-  lanes : (x y : N) → name x ≢ name y → ¬ LeftOut (name x) (name y) → Dec (home (kindOf L D x) ≡ home (kindOf L D y)) → Lanes L D x y
-  lanes x y d a (no p) = inl (sameKind-no (home (kindOf L D x)) (home (kindOf L D y)) p)
-  lanes x y d a (yes p) = go (home-same (kindOf L D x) (kindOf L D y) p)
+  lanes : (x y : N) → name x ≢ name y → ¬ LeftOut (name x) (name y) → Dec (home (kindOf D x) ≡ home (kindOf D y)) → Lanes L D x y
+  lanes x y d a (no p) = inl (sameKind-no (home (kindOf D x)) (home (kindOf D y)) p)
+  lanes x y d a (yes p) = go (home-same (kindOf D x) (kindOf D y) p)
     where
-      go : (kindOf L D x ≡ kindOf L D y) ⊎ (Charges (kindOf L D x) (kindOf L D y) ⊎ Charges (kindOf L D y) (kindOf L D x)) → Lanes L D x y
+      go : (kindOf D x ≡ kindOf D y) ⊎ (Charges (kindOf D x) (kindOf D y) ⊎ Charges (kindOf D y) (kindOf D x)) → Lanes L D x y
       go (inl e) = inr (both-other x y e d, sym e ∙ both-other x y e d)
       go (inr (inl c)) = absurd (a (inl (charges x y c)))
       go (inr (inr c)) = absurd (a (inr (charges y x c)))
 
-  money : (x y : N) → ¬ LeftOut (name x) (name y) → kindOf L D x ≡ summation → NoCurrency L D y
+  money : (x y : N) → ¬ LeftOut (name x) (name y) → kindOf D x ≡ summation → NoCurrency L D y
   money x y a e = (
-    sameKind-no invoiceCurrency (home (kindOf L D y)) (λ p. a (inr (inl (kind-name y invoiceCurrency (home-is (kindOf L D y) invoiceCurrency (sym p) (λ q. true≢false cc)) (λ q. true≢false cc), sum)))),
-    sameKind-no taxCurrency (home (kindOf L D y)) (λ p. a (inr (inr (inl (kind-name y taxCurrency (home-is (kindOf L D y) taxCurrency (sym p) (λ q. true≢false cc)) (λ q. true≢false cc), sum))))),
+    sameKind-no invoiceCurrency (home (kindOf D y)) (λ p. a (inr (inl (kind-name y invoiceCurrency (home-is (kindOf D y) invoiceCurrency (sym p) (λ q. true≢false cc)) (λ q. true≢false cc), sum)))),
+    sameKind-no taxCurrency (home (kindOf D y)) (λ p. a (inr (inr (inl (kind-name y taxCurrency (home-is (kindOf D y) taxCurrency (sym p) (λ q. true≢false cc)) (λ q. true≢false cc), sum))))),
   )
     where
       sum : name x ≡ bytes (kindName summation)
       sum = kind-name x summation e (λ q. true≢false cc)
 
   free : (x y : N) → name x ≢ name y → ¬ LeftOut (name x) (name y) → Free L D x y
-  free x y d a = record { lanes = lanes x y d a (Kind-discrete (home (kindOf L D x)) (home (kindOf L D y))); money = λ e. money x y a (sameKind-eq (kindOf L D x) summation e) }
+  free x y d a = record { lanes = lanes x y d a (Kind-discrete (home (kindOf D x)) (home (kindOf D y))); money = λ e. money x y a (sameKind-eq (kindOf D x) summation e) }
 
 turned : {a b : List ℕ} → ¬ LeftOut a b → ¬ LeftOut b a
 turned h (inl p) = h (inr p)
@@ -187,7 +187,7 @@ turned h (inr p) = h (inl p)
 
 -- where texts stand for themselves, unmapped names are in a total order
 module _ {N : Type 0} (L : Lent) (D : Doc N (List ℕ)) (plain : (s : List ℕ) → D .bytes s ≡ s) where
-  key-same : (a b : Unmapped (List ℕ)) → unmappedKey L D a ≡ unmappedKey L D b → a ≡ b
+  key-same : (a b : Unmapped (List ℕ)) → unmappedKey D a ≡ unmappedKey D b → a ≡ b
   unfolding unmappedKey
   key-same a b e =
       let p : a .parent ≡ b .parent = parent-same (a .parent) (b .parent) (cc) in
@@ -195,13 +195,13 @@ module _ {N : Type 0} (L : Lent) (D : Doc N (List ℕ)) (plain : (s : List ℕ) 
       let n : a .name ≡ b .name = sym (plain (a .name)) ∙ h ∙ plain (b .name) in
       λ i. record { parent = p i; name = n i }
 
-  unmapped-total : Total (unmappedOrder L D)
+  unmapped-total : Total (unmappedOrder D)
   unfolding unmappedOrder
   unmapped-total =
       record {
-        turned = λ a b. order-turned (unmappedKey L D a) (unmappedKey L D b);
-        same = λ a b e. key-same a b (order-is (unmappedKey L D a) (unmappedKey L D b) e);
-        trans = λ a b c. order-trans (unmappedKey L D a) (unmappedKey L D b) (unmappedKey L D c);
+        turned = λ a b. order-turned (unmappedKey D a) (unmappedKey D b);
+        same = λ a b e. key-same a b (order-is (unmappedKey D a) (unmappedKey D b) e);
+        trans = λ a b c. order-trans (unmappedKey D a) (unmappedKey D b) (unmappedKey D c);
       }
 
   -- two settlements that differ by an exchange have readings that differ in order alone

@@ -7,18 +7,19 @@ use Prim.Native.Nat.{ℕ, Ordering, Ordering·lt, Ordering·eq, Ordering·gt}
 use Prim.Native.String.{String}
 use lib.IntN.{ℤ}
 use Rattle.text.specs.Answer.{Answer}
+use Rattle.text.specs.Utf8.{bytes}
 use Rattle.codes.specs.declared.rules.Rule.{Rule}
+use Rattle.names.specs.declared.message.Message.{Message}
+use Rattle.names.specs.declared.message.Message.the-variants as Message
+use Rattle.names.specs.declared.path.Path.{Path}
+use Rattle.names.specs.declared.path.Path.the-variants as Path
 use Rattle.report.specs.Rows.{Entry, Transfer, AllowanceCharge, Unmapped, mapEntry, mapTransfer, mapVat, mapAllowanceCharge, mapPreceding, mapHeld, mapUnmapped}
-use Rattle.report.specs.declared.message.Message.{Message}
-use Rattle.report.specs.declared.message.Message.the-variants as Message
-use Rattle.report.specs.declared.path.Path.{Path}
-use Rattle.report.specs.declared.path.Path.the-variants as Path
 use Rattle.settlement.specs.Document.{Doc, maybe, or}
 use Rattle.settlement.specs.Shapes.{Means, unset, card, debit, transfers, Payment, VatState, Counts, Of, State, blank, Act, Currencies}
-use Rattle.settlement.specs.Values.{Lent, Site, entry, trimIn, filled, textIn, ownText, first, kid, kidText, attribute, missing, answered, wrongCurrency, parsed, inCurrency, amountFrom, amountOf, amount, requiredAmount, requiredCode, percentOf, percent, notVat, dateAnswer, dateFrom, otherSpelling, dateIn, date}
-use Rattle.settlement.specs.Tax.{TaxPaths, GroupTerms, pointDate, freshCode, againCode, pointCode, tradeTaxOf, categoryIn, categoryOf, indicated, indicator, isCharge, allowanceChargeOf, counted, allowanceOrCharge, logisticsRead, logisticsLeft, logistics}
+use Rattle.settlement.specs.Values.{Lent, Site, entry, trimIn, filled, textIn, ownText, textBytes, first, kid, kidText, attribute, missing, answered, parsed, inCurrency, amountFrom, amountOf, amount, requiredAmount, requiredCode, percentOf, percent, notVat, dateFrom, otherSpelling, dateIn, date}
+use Rattle.settlement.specs.Tax.{TaxPaths, GroupTerms, pointDate, freshCode, againCode, pointCode, tradeTaxOf, categoryIn, categoryOf, indicated, indicator, isCharge, allowanceChargeOf, allowanceOrCharge, logisticsRead, logisticsLeft, logistics}
 use Rattle.settlement.specs.Payments.{Part, typeCode, information, financialCard, debtorAccount, creditorAccount, institution, unknown, Paying, partOf, notHeld, withMeans, firstMeans, accountOf, joined, lost, creditor, providerOf, part, paying, payingStart, paid, paymentMeansOf}
-use Rattle.settlement.specs.Summation.{Sum, required, allowanceTotal, chargeTotal, taxTotal, rounding, prepaid, unread, Summing, sumOf, isCurrency, withVat, taxIn, taxRead, taxAmount, taxTotalOf, summand, summing, summed, totals}
+use Rattle.settlement.specs.Summation.{Sum, required, allowanceTotal, chargeTotal, taxTotal, rounding, prepaid, unread, Summing, sumOf, isCurrency, withVat, taxIn, taxAmount, taxTotalOf, summand, summing, summed, totals}
 use Rattle.settlement.specs.Walk.{said, placed, insert, insertAll}
 use Rattle.settlement.specs.Settlement.{Debit, identifierOf, payeeOf, quiet, periodOf, paymentTermsOf, precedingOf, own, kindOf, soFar, unseen, seen, act, step, saysOf, holdsOf, straysOf, besides, debited, debitOf, lateOf, termsOf, unmappedKey, unmappedOrder, after, readingOf, reading}
 use Rattle.settlement.specs.Kinds.{Kind, creditorReference, paymentReference, taxCurrency, invoiceCurrency, payee, paymentMeans, tradeTax, period, allowanceCharge, logisticsCharge, paymentTerms, summation, precedingInvoice, accounting, other, sameKind, home}
@@ -53,129 +54,125 @@ insertAll-map c d f e l [] = refl
 insertAll-map {B = B} c d f e l (u ∷ us) = insertAll-map c d f e (insert c u l) us ∙ ap (λ (t : List B). insertAll d t (map f us)) (insert-map c d f e u l)
 
 module _ {N M X Y : Type 0} (L : Lent) (D : Doc N X) (E : Doc M Y) (h : N → M) (v : X → Y) (H : Hom D E h v) where
-  entry-n : (m : Message) (s : Site) (o : Option X) → mapEntry v (entry L D m s o) ≡ entry L E m s (Option·map v o)
+  entry-n : (m : Message) (s : Site) (o : Option X) → mapEntry v (entry m s o) ≡ entry m s (Option·map v o)
   unfolding entry mapEntry
   entry-n m s o = refl
 
-  trimIn-n : (mode : ℕ) (x : X) → trimIn L E mode (v x) ≡ v (trimIn L D mode x)
+  trimIn-n : (mode : ℕ) (x : X) → trimIn E mode (v x) ≡ v (trimIn D mode x)
   unfolding trimIn
   trimIn-n mode x = simp (H .bytes, H .cut)
 
-  filled-n : (mode : ℕ) (x : X) → filled L E mode (v x) ≡ Option·map v (filled L D mode x)
+  filled-n : (mode : ℕ) (x : X) → filled E mode (v x) ≡ Option·map v (filled D mode x)
   unfolding filled
   filled-n mode x = simp (maps, trimIn-n, H .bytes)
 
-  textIn-n : (mode : ℕ) (n : N) → textIn L E mode (h n) ≡ Option·map v (textIn L D mode n)
+  textIn-n : (mode : ℕ) (n : N) → textIn E mode (h n) ≡ Option·map v (textIn D mode n)
   unfolding textIn
   textIn-n mode n = simp (maps, H .text, filled-n)
 
-  ownText-n : (mode : ℕ) (n : N) → ownText L E mode (h n) ≡ v (ownText L D mode n)
+  ownText-n : (mode : ℕ) (n : N) → ownText E mode (h n) ≡ v (ownText D mode n)
   unfolding ownText
   ownText-n mode n = simp (textIn-n, H .empty, or-map v)
 
-  first-n : (w : List ℕ) (cs : List N) → first L E w (map h cs) ≡ Option·map h (first L D w cs)
+  first-n : (w : List ℕ) (cs : List N) → first E w (map h cs) ≡ Option·map h (first D w cs)
   unfolding first
   first-n w [] = refl
   first-n w (c ∷ cs) = rw (first-n w cs) (simp (maps, H .name, H .bytes))
 
-  kid-n : (n : N) (w : String) → kid L E (h n) w ≡ Option·map h (kid L D n w)
+  kid-n : (n : N) (w : List ℕ) → kid E (h n) w ≡ Option·map h (kid D n w)
   unfolding kid
   kid-n n w = simp (H .kids, first-n)
 
-  kidText-n : (mode : ℕ) (n : N) (w : String) → kidText L E mode (h n) w ≡ Option·map v (kidText L D mode n w)
+  kidText-n : (mode : ℕ) (n : N) (w : List ℕ) → kidText E mode (h n) w ≡ Option·map v (kidText D mode n w)
   unfolding kidText
   kidText-n mode n w = simp (maps, kid-n, textIn-n)
 
-  attribute-n : (n : N) (a : String) → attribute L E (h n) a ≡ Option·map v (attribute L D n a)
+  attribute-n : (n : N) (a : List ℕ) → attribute E (h n) a ≡ Option·map v (attribute D n a)
   unfolding attribute
   attribute-n n a = simp (maps, H .attr, filled-n)
 
-  missing-n : (r : Rule) (s : Site) → missing L E r s ≡ map (mapEntry v) (missing L D r s)
+  missing-n : (r : Rule) (s : Site) → missing (L .rules) r s ≡ map (mapEntry v) (missing (L .rules) r s)
   unfolding missing
   missing-n r s = simp (maps, entry-n)
 
-  answered-n : {A : Type 0} (m : ℕ → Message) (s : Site) (x : X) (a : Answer A) → answered L E m s (v x) a ≡ mapSays v (answered L D m s x a)
+  textBytes-n : (n : N) → textBytes E (h n) ≡ textBytes D n
+  unfolding textBytes
+  textBytes-n n = simp (maps, H .text, H .bytes)
+
+  answered-n : {A : Type 0} (m : ℕ → Message) (s : Site) (e : N) (a : Answer A) → answered (L .mode) E m s (h e) a ≡ mapSays v (answered (L .mode) D m s e a)
   unfolding answered
-  answered-n m s x a = simp (maps, entry-n, trimIn-n)
+  answered-n m s e a = simp (maps, entry-n, ownText-n)
 
-  wrongCurrency-n : (c : X) → wrongCurrency L E (v c) ≡ wrongCurrency L D c
-  unfolding wrongCurrency
-  wrongCurrency-n c = simp (H .bytes)
-
-  parsed-n : (s : Site) (x : X) → parsed L E s (v x) ≡ mapSays v (parsed L D s x)
+  parsed-n : (s : Site) (e : N) → parsed (L .mode) E s (h e) ≡ mapSays v (parsed (L .mode) D s e)
   unfolding parsed
-  parsed-n s x = simp (H .bytes, answered-n)
+  parsed-n s e = simp (textBytes-n, answered-n)
 
-  inCurrency-n : (s : Site) (x c : X) → inCurrency L E s (v x) (v c) ≡ mapSays v (inCurrency L D s x c)
+  inCurrency-n : (s : Site) (e : N) (c : X) → inCurrency (L .mode) (L .currency) E s (h e) (v c) ≡ mapSays v (inCurrency (L .mode) (L .currency) D s e c)
   unfolding inCurrency
-  inCurrency-n s x c = simp (maps, wrongCurrency-n, parsed-n, entry-n)
+  inCurrency-n s e c = simp (maps, H .bytes, parsed-n, entry-n)
 
-  amountFrom-n : (s : Site) (e : N) (x : X) → amountFrom L E s (h e) (v x) ≡ mapSays v (amountFrom L D s e x)
+  amountFrom-n : (s : Site) (e : N) → amountFrom (L .mode) (L .currency) E s (h e) ≡ mapSays v (amountFrom (L .mode) (L .currency) D s e)
   unfolding amountFrom
-  amountFrom-n s e x = simp (maps, attribute-n, parsed-n, inCurrency-n)
+  amountFrom-n s e = simp (maps, attribute-n, parsed-n, inCurrency-n)
 
-  amountOf-n : (s : Site) (e : N) → amountOf L E s (h e) ≡ mapSays v (amountOf L D s e)
+  amountOf-n : (s : Site) (e : N) → amountOf (L .mode) (L .currency) E s (h e) ≡ mapSays v (amountOf (L .mode) (L .currency) D s e)
   unfolding amountOf
-  amountOf-n s e = simp (maps, H .text, H .bytes, amountFrom-n)
+  amountOf-n s e = simp (maps, textIn-n, amountFrom-n)
 
-  amount-n : (s : Site) (n : N) (w : String) → amount L E s (h n) w ≡ mapSays v (amount L D s n w)
+  amount-n : (s : Site) (n : N) (w : List ℕ) → amount (L .mode) (L .currency) E s (h n) w ≡ mapSays v (amount (L .mode) (L .currency) D s n w)
   unfolding amount
   amount-n s n w = simp (maps, kid-n, amountOf-n)
 
-  requiredAmount-n : (r : Rule) (p : Path) (s : Site) (n : N) (w : String) → requiredAmount L E r p s (h n) w ≡ mapSays v (requiredAmount L D r p s n w)
+  requiredAmount-n : (r : Rule) (p : Path) (s : Site) (n : N) (w : List ℕ) → requiredAmount L E r p s (h n) w ≡ mapSays v (requiredAmount L D r p s n w)
   unfolding requiredAmount
   requiredAmount-n r p s n w = simp (maps, kidText-n, amount-n, missing-n)
 
-  requiredCode-n : (r : Rule) (s : Site) (n : N) (w : String) → requiredCode L E r s (h n) w ≡ mapBoth v v (requiredCode L D r s n w)
+  requiredCode-n : (r : Rule) (s : Site) (n : N) (w : List ℕ) → requiredCode (L .rules) E r s (h n) w ≡ mapBoth v v (requiredCode (L .rules) D r s n w)
   unfolding requiredCode
   requiredCode-n r s n w = simp (maps, kidText-n, H .empty, missing-n, both-maybe v v, both-pair v v)
 
-  percentOf-n : (s : Site) (e : N) → percentOf L E s (h e) ≡ mapSays v (percentOf L D s e)
+  percentOf-n : (s : Site) (e : N) → percentOf (L .mode) E s (h e) ≡ mapSays v (percentOf (L .mode) D s e)
   unfolding percentOf
-  percentOf-n s e = simp (maps, H .text, H .bytes, answered-n)
+  percentOf-n s e = simp (maps, textIn-n, textBytes-n, answered-n)
 
-  percent-n : (s : Site) (n : N) (w : String) → percent L E s (h n) w ≡ mapSays v (percent L D s n w)
+  percent-n : (s : Site) (n : N) (w : List ℕ) → percent (L .mode) E s (h n) w ≡ mapSays v (percent (L .mode) D s n w)
   unfolding percent
   percent-n s n w = simp (maps, kid-n, percentOf-n)
 
-  notVat-n : (s : Site) (n : N) → notVat L E s (h n) ≡ map (mapEntry v) (notVat L D s n)
+  notVat-n : (s : Site) (n : N) → notVat E s (h n) ≡ map (mapEntry v) (notVat D s n)
   unfolding notVat
   notVat-n s n = simp (maps, kidText-n, H .bytes, entry-n)
 
-  dateAnswer-n : (s : Site) (e : N) (a : Answer ℕ) → dateAnswer L E s (h e) a ≡ mapSays v (dateAnswer L D s e a)
-  unfolding dateAnswer
-  dateAnswer-n s e a = simp (maps, ownText-n, entry-n)
-
-  dateFrom-n : (p : Path) (e : N) → dateFrom L E p (h e) ≡ mapSays v (dateFrom L D p e)
+  dateFrom-n : (p : Path) (e : N) → dateFrom (L .mode) E p (h e) ≡ mapSays v (dateFrom (L .mode) D p e)
   unfolding dateFrom
-  dateFrom-n p e = simp (maps, H .attr, H .text, H .bytes, dateAnswer-n, ownText-n, entry-n)
+  dateFrom-n p e = simp (maps, H .attr, H .bytes, textBytes-n, answered-n, ownText-n, entry-n)
 
-  otherSpelling-n : (p : Path) (e : N) → otherSpelling L E p (h e) ≡ mapSays v (otherSpelling L D p e)
+  otherSpelling-n : (p : Path) (e : N) → otherSpelling (L .mode) E p (h e) ≡ mapSays v (otherSpelling (L .mode) D p e)
   unfolding otherSpelling
   otherSpelling-n p e = simp (maps, dateFrom-n, ownText-n, entry-n)
 
-  dateIn-n : (b : Bool) (p q : Path) (e : N) → dateIn L E b p q (h e) ≡ mapSays v (dateIn L D b p q e)
+  dateIn-n : (b : Bool) (p q : Path) (e : N) → dateIn (L .mode) E b p q (h e) ≡ mapSays v (dateIn (L .mode) D b p q e)
   unfolding dateIn
   dateIn-n b p q e = simp (maps, kid-n, dateFrom-n, otherSpelling-n)
 
-  date-n : (b : Bool) (p q : Path) (n : N) (w : String) → date L E b p q (h n) w ≡ mapSays v (date L D b p q n w)
+  date-n : (b : Bool) (p q : Path) (n : N) (w : List ℕ) → date (L .mode) E b p q (h n) w ≡ mapSays v (date (L .mode) D b p q n w)
   unfolding date
   date-n b p q n w = simp (maps, kid-n, dateIn-n)
 
   -- VAT, allowances and charges
-  pointDate-n : (s : VatState X) (n : N) → pointDate L E (mapVatState v s) (h n) ≡ mapSays v (pointDate L D s n)
+  pointDate-n : (s : VatState X) (n : N) → pointDate (L .mode) E (mapVatState v s) (h n) ≡ mapSays v (pointDate (L .mode) D s n)
   unfolding pointDate mapVatState
   pointDate-n s n = simp (maps, date-n)
 
-  freshCode-n : (s : VatState X) (x : X) (a : Answer ℕ) → freshCode L E (mapVatState v s) (v x) a ≡ mapBoth v (mapVatState v) (freshCode L D s x a)
+  freshCode-n : (s : VatState X) (x : X) (a : Answer ℕ) → freshCode E (mapVatState v s) (v x) a ≡ mapBoth v (mapVatState v) (freshCode D s x a)
   unfolding freshCode mapVatState
   freshCode-n s x a = simp (maps, entry-n, both-pair v (mapVatState v))
 
-  againCode-n : (s : VatState X) (x f : X) → againCode L E (mapVatState v s) (v x) (v f) ≡ mapBoth v (mapVatState v) (againCode L D s x f)
+  againCode-n : (s : VatState X) (x f : X) → againCode E (mapVatState v s) (v x) (v f) ≡ mapBoth v (mapVatState v) (againCode D s x f)
   unfolding againCode
   againCode-n s x f = simp (maps, entry-n, both-pair v (mapVatState v), H .bytes)
 
-  pointCode-n : (s : VatState X) (n : N) → pointCode L E (mapVatState v s) (h n) ≡ mapBoth v (mapVatState v) (pointCode L D s n)
+  pointCode-n : (s : VatState X) (n : N) → pointCode E (mapVatState v s) (h n) ≡ mapBoth v (mapVatState v) (pointCode D s n)
   unfolding pointCode
   pointCode-n s n = simp (maps, kidText-n, first-code, H .bytes, freshCode-n, againCode-n, both-maybe v (mapVatState v), both-pair v (mapVatState v))
     where
@@ -194,19 +191,19 @@ module _ {N M X Y : Type 0} (L : Lent) (D : Doc N X) (E : Doc M Y) (h : N → M)
   unfolding categoryIn
   categoryIn-n p t g n = simp (maps, requiredCode-n, percent-n, notVat-n, both-0 v v, both-1 v v, both-pair v inFront)
 
-  categoryOf-n : (p : TaxPaths) (t : GroupTerms) (g : ℕ) (n : N) (w : String) → categoryOf L E p t g (h n) w ≡ mapBoth v inFront (categoryOf L D p t g n w)
+  categoryOf-n : (p : TaxPaths) (t : GroupTerms) (g : ℕ) (n : N) (w : List ℕ) → categoryOf L E p t g (h n) w ≡ mapBoth v inFront (categoryOf L D p t g n w)
   unfolding categoryOf
   categoryOf-n p t g n w = simp (maps, kid-n, H .empty, missing-n, categoryIn-n, both-maybe v inFront, both-pair v inFront)
 
-  indicated-n : (i : N) (a : Answer Bool) → indicated L E (h i) a ≡ mapSays v (indicated L D i a)
+  indicated-n : (i : N) (a : Answer Bool) → indicated E (h i) a ≡ mapSays v (indicated D i a)
   unfolding indicated
   indicated-n i a = simp (maps, ownText-n, entry-n)
 
-  indicator-n : (n : N) → indicator L E (h n) ≡ Option·map h (indicator L D n)
+  indicator-n : (n : N) → indicator E (h n) ≡ Option·map h (indicator D n)
   unfolding indicator
   indicator-n n = simp (maps, kid-n)
 
-  isCharge-n : (n : N) → isCharge L E (h n) ≡ mapSays v (isCharge L D n)
+  isCharge-n : (n : N) → isCharge E (h n) ≡ mapSays v (isCharge D n)
   unfolding isCharge
   isCharge-n n = simp (maps, indicator-n, ownText-n, H .bytes, indicated-n, entry-n)
 
@@ -218,54 +215,50 @@ module _ {N M X Y : Type 0} (L : Lent) (D : Doc N X) (E : Doc M Y) (h : N → M)
       reduction-map : (a : AllowanceCharge X) → mapAllowanceCharge v a ≡ record { amount = a .amount; base = a .base; percentage = a .percentage; category = v (a .category); rate = a .rate; reason = Option·map v (a .reason); code = Option·map v (a .code) }
       reduction-map a = unfold mapAllowanceCharge in refl
 
-  counted-n : (b : Bool) (s : Counts) → counted L E b s ≡ counted L D b s
-  unfolding counted
-  counted-n b s = refl
-
   allowanceOrCharge-n : (s : Counts) (n : N) → allowanceOrCharge L E s (h n) ≡ mapAct v (λ t. t) (allowanceOrCharge L D s n)
   unfolding allowanceOrCharge mapAct
-  allowanceOrCharge-n s n = simp (maps, isCharge-n, allowanceChargeOf-n, counted-n, both-0 v (mapHeld v), both-1 v (mapHeld v))
+  allowanceOrCharge-n s n = simp (maps, isCharge-n, allowanceChargeOf-n, both-0 v (mapHeld v), both-1 v (mapHeld v))
 
   logistics-n : (s : Counts) (n : N) → logistics L E s (h n) ≡ mapAct v (λ t. t) (logistics L D s n)
   unfolding logistics logisticsRead logisticsLeft mapAct mapHeld mapAllowanceCharge
-  logistics-n s n = simp (maps, categoryOf-n, requiredAmount-n, kidText-n, counted-n, entry-n, both-0 v inFront, both-1 v inFront)
+  logistics-n s n = simp (maps, categoryOf-n, requiredAmount-n, kidText-n, entry-n, both-0 v inFront, both-1 v inFront)
 
   -- payment means
-  notHeld-n : (m : Message) (p : Path) (s : Paying X) → notHeld L E m p (mapPaying v s) ≡ mapPaying v (notHeld L D m p s)
+  notHeld-n : (m : Message) (p : Path) (s : Paying X) → notHeld m p (mapPaying v s) ≡ mapPaying v (notHeld m p s)
   unfolding notHeld mapPaying
   notHeld-n m p s = simp (maps, entry-n)
 
-  withMeans-n : (m : Means X) (s : Paying X) → withMeans L E (mapMeans v m) (mapPaying v s) ≡ mapPaying v (withMeans L D m s)
+  withMeans-n : (m : Means X) (s : Paying X) → withMeans (mapMeans v m) (mapPaying v s) ≡ mapPaying v (withMeans m s)
   unfolding withMeans mapPaying mapPayment
   withMeans-n m s = refl
 
-  firstMeans-n : (k : Means X) (m : Message) (p : Path) (new : Means X) (s : Paying X) → firstMeans L E (mapMeans v k) m p (mapMeans v new) (mapPaying v s) ≡ mapPaying v (firstMeans L D k m p new s)
+  firstMeans-n : (k : Means X) (m : Message) (p : Path) (new : Means X) (s : Paying X) → firstMeans (mapMeans v k) m p (mapMeans v new) (mapPaying v s) ≡ mapPaying v (firstMeans k m p new s)
   unfolding firstMeans mapMeans
   firstMeans-n unset m p new s = withMeans-n new s
   firstMeans-n (card a b) m p new s = notHeld-n m p s
   firstMeans-n (debit a) m p new s = notHeld-n m p s
   firstMeans-n transfers m p new s = notHeld-n m p s
 
-  accountOf-n : (c : N) → accountOf L E (h c) ≡ Option·map v (accountOf L D c)
+  accountOf-n : (c : N) → accountOf E (h c) ≡ Option·map v (accountOf D c)
   unfolding accountOf
   accountOf-n c = simp (maps, kidText-n)
 
-  joined-n : (c : N) (s : Paying X) → joined L E (h c) (mapPaying v s) ≡ mapPaying v (joined L D c s)
+  joined-n : (c : N) (s : Paying X) → joined E (h c) (mapPaying v s) ≡ mapPaying v (joined D c s)
   unfolding joined mapPaying mapPayment mapMeans mapTransfer
   joined-n c s = simp (maps, accountOf-n, kidText-n)
 
-  lost-n : (s : Paying X) → lost L E (mapPaying v s) ≡ mapPaying v (lost L D s)
+  lost-n : (s : Paying X) → lost (mapPaying v s) ≡ mapPaying v (lost s)
   unfolding lost mapPaying
   lost-n s = notHeld-n Message.AccountBesideOther Path.PaymentMeansCreditorAccount (record { payment = s .payment; last = false; rows = s .rows; says = s .says; strays = s .strays })
 
-  creditor-n : (k : Means X) (c : N) (s : Paying X) → creditor L E (mapMeans v k) (h c) (mapPaying v s) ≡ mapPaying v (creditor L D k c s)
+  creditor-n : (k : Means X) (c : N) (s : Paying X) → creditor E (mapMeans v k) (h c) (mapPaying v s) ≡ mapPaying v (creditor D k c s)
   unfolding creditor mapMeans
   creditor-n unset c s = joined-n c s
   creditor-n transfers c s = joined-n c s
   creditor-n (card a b) c s = lost-n s
   creditor-n (debit a) c s = lost-n s
 
-  providerOf-n : (b : Bool) (l : List (Transfer X)) (o : Option X) (s : Paying X) → providerOf L E b (map (mapTransfer v) l) (Option·map v o) (mapPaying v s) ≡ mapPaying v (providerOf L D b l o s)
+  providerOf-n : (b : Bool) (l : List (Transfer X)) (o : Option X) (s : Paying X) → providerOf b (map (mapTransfer v) l) (Option·map v o) (mapPaying v s) ≡ mapPaying v (providerOf b l o s)
   unfolding providerOf mapPaying
   providerOf-n true (t ∷ l) o s = rw (provided-map v o t l)
   providerOf-n true [] none s = refl
@@ -273,59 +266,55 @@ module _ {N M X Y : Type 0} (L : Lent) (D : Doc N X) (E : Doc M Y) (h : N → M)
   providerOf-n false l none s = refl
   providerOf-n false l (some x) s = notHeld-n Message.ProviderWithoutAccount Path.PaymentMeansCreditorInstitution s
 
-  part-n : (p : Part) (s : Paying X) (c : N) → part L E p (mapPaying v s) (h c) ≡ mapPaying v (part L D p s c)
+  part-n : (p : Part) (s : Paying X) (c : N) → part E p (mapPaying v s) (h c) ≡ mapPaying v (part D p s c)
   unfolding part mapPaying mapPayment mapMeans
   part-n typeCode s c = simp (ownText-n, ← orElse-map)
   part-n information s c = simp (maps, textIn-n)
   part-n financialCard s c =
-      simp kidText-n (firstMeans-n (s .payment .means) Message.CardBesideOther Path.PaymentMeansFinancialCard (card (kidText L D 0 c "ID") (kidText L D 0 c "CardholderName")) s)
-  part-n debtorAccount s c = simp accountOf-n (firstMeans-n (s .payment .means) Message.DebitedAccountBesideOther Path.PaymentMeansDebtorAccount (debit (accountOf L D c)) s)
+      simp kidText-n (firstMeans-n (s .payment .means) Message.CardBesideOther Path.PaymentMeansFinancialCard (card (kidText D 0 c (bytes "ID")) (kidText D 0 c (bytes "CardholderName"))) s)
+  part-n debtorAccount s c = simp accountOf-n (firstMeans-n (s .payment .means) Message.DebitedAccountBesideOther Path.PaymentMeansDebtorAccount (debit (accountOf D c)) s)
   part-n creditorAccount s c = creditor-n (s .payment .means) c s
-  part-n institution s c = simp kidText-n (providerOf-n (s .last) (s .rows) (kidText L D 0 c "BICID") s)
+  part-n institution s c = simp kidText-n (providerOf-n (s .last) (s .rows) (kidText D 0 c (bytes "BICID")) s)
   part-n unknown s c = simp (maps, H .name)
 
-  partOf-n : (c : N) → partOf L E (h c) ≡ partOf L D c
+  partOf-n : (c : N) → partOf E (h c) ≡ partOf D c
   unfolding partOf
   partOf-n c = simp (H .name, H .bytes)
 
-  paying-n : (s : Paying X) (c : N) → paying L E (mapPaying v s) (h c) ≡ mapPaying v (paying L D s c)
+  paying-n : (s : Paying X) (c : N) → paying E (mapPaying v s) (h c) ≡ mapPaying v (paying D s c)
   unfolding paying
-  paying-n s c = rw (partOf-n c) (part-n (partOf L D c) s c)
+  paying-n s c = rw (partOf-n c) (part-n (partOf D c) s c)
 
   foldl-n : {S T : Type 0} (f : S → N → S) (g : T → M → T) (m : S → T) → ((s : S) (c : N) → g (m s) (h c) ≡ m (f s c)) → (s : S) (cs : List N) → foldl g (m s) (map h cs) ≡ m (foldl f s cs)
   foldl-n f g m e s [] = refl
   foldl-n {T = T} f g m e s (c ∷ cs) = ap (λ (t : T). foldl g t (map h cs)) (e s c) ∙ foldl-n f g m e (f s c) cs
 
-  paid-n : (p : Payment X) (n : N) → paid L E (mapPayment v p) (h n) ≡ mapPaying v (paid L D p n)
+  paid-n : (p : Payment X) (n : N) → paid E (mapPayment v p) (h n) ≡ mapPaying v (paid D p n)
   unfolding paid payingStart mapPaying mapPayment
-  paid-n p n = rw (H .kids n) (foldl-n (paying L D) (paying L E) (mapPaying v) paying-n (payingStart L D p) (D .kids n))
+  paid-n p n = rw (H .kids n) (foldl-n (paying D) (paying E) (mapPaying v) paying-n (payingStart p) (D .kids n))
 
-  paymentMeansOf-n : (p : Payment X) (n : N) → paymentMeansOf L E (mapPayment v p) (h n) ≡ mapAct v (mapPayment v) (paymentMeansOf L D p n)
+  paymentMeansOf-n : (p : Payment X) (n : N) → paymentMeansOf E (mapPayment v p) (h n) ≡ mapAct v (mapPayment v) (paymentMeansOf D p n)
   unfolding paymentMeansOf mapAct mapPaying
   paymentMeansOf-n p n = simp (maps, paid-n)
 
   -- the summation
-  sumOf-n : (c : N) → sumOf L E (h c) ≡ sumOf L D c
+  sumOf-n : (c : N) → sumOf E (h c) ≡ sumOf D c
   unfolding sumOf
   sumOf-n c = simp (H .name, H .bytes)
 
-  isCurrency-n : (o : Option X) (c : X) → isCurrency L E (Option·map v o) (v c) ≡ isCurrency L D o c
+  isCurrency-n : (o : Option X) (c : X) → isCurrency E (Option·map v o) (v c) ≡ isCurrency D o c
   unfolding isCurrency
   isCurrency-n o c = simp (maps, H .bytes)
 
-  taxIn-n : (cur : Currencies X) (a : Option ℤ) (es : List (Entry X)) (s : Summing X) (c : X) → taxIn L E (mapCurrencies v cur) a (map (mapEntry v) es) (mapSumming v s) (v c) ≡ mapSumming v (taxIn L D cur a es s c)
+  taxIn-n : (cur : Currencies X) (a : Option ℤ) (es : List (Entry X)) (s : Summing X) (c : X) → taxIn E (mapCurrencies v cur) a (map (mapEntry v) es) (mapSumming v s) (v c) ≡ mapSumming v (taxIn D cur a es s c)
   unfolding taxIn withVat mapCurrencies mapSumming
   taxIn-n cur a es s c = simp (maps, isCurrency-n, entry-n)
 
-  taxRead-n : (c : N) (a : Answer ℤ) → taxRead L E (h c) a ≡ mapSays v (taxRead L D c a)
-  unfolding taxRead
-  taxRead-n c a = simp (maps, ownText-n, entry-n)
-
-  taxAmount-n : (c : N) → taxAmount L E (h c) ≡ mapSays v (taxAmount L D c)
+  taxAmount-n : (c : N) → taxAmount (L .mode) E (h c) ≡ mapSays v (taxAmount (L .mode) D c)
   unfolding taxAmount
-  taxAmount-n c = simp (maps, H .text, H .bytes, taxRead-n)
+  taxAmount-n c = simp (textBytes-n, answered-n)
 
-  withVat-n : (a b : Option ℤ) (es : List (Entry X)) (s : Summing X) → withVat L E a b (map (mapEntry v) es) (mapSumming v s) ≡ mapSumming v (withVat L D a b es s)
+  withVat-n : (a b : Option ℤ) (es : List (Entry X)) (s : Summing X) → withVat a b (map (mapEntry v) es) (mapSumming v s) ≡ mapSumming v (withVat a b es s)
   unfolding withVat mapSumming
   withVat-n a b es s = simp maps
 
@@ -352,7 +341,7 @@ module _ {N M X Y : Type 0} (L : Lent) (D : Doc N X) (E : Doc M Y) (h : N → M)
 
   summing-n : (cur : Currencies X) (n : N) (s : Summing X) (c : N) → summing L E (mapCurrencies v cur) (h n) (mapSumming v s) (h c) ≡ mapSumming v (summing L D cur n s c)
   unfolding summing
-  summing-n cur n s c = rw (sumOf-n c) (summand-n (sumOf L D c) cur n s c)
+  summing-n cur n s c = rw (sumOf-n c) (summand-n (sumOf D c) cur n s c)
 
   summed-n : (cur : Currencies X) (n : N) → summed L E (mapCurrencies v cur) (h n) ≡ mapSumming v (summed L D cur n)
   unfolding summed mapSumming
@@ -365,19 +354,19 @@ module _ {N M X Y : Type 0} (L : Lent) (D : Doc N X) (E : Doc M Y) (h : N → M)
   totals-n cur n = simp (maps, summed-n, requiredAmount-n)
 
   -- the other children
-  identifierOf-n : (n : N) → identifierOf L E (h n) ≡ mapIdentifier v (identifierOf L D n)
+  identifierOf-n : (n : N) → identifierOf E (h n) ≡ mapIdentifier v (identifierOf D n)
   unfolding identifierOf mapIdentifier
   identifierOf-n n = simp (maps, H .attr, ownText-n)
 
-  payeeOf-n : (n : N) → payeeOf L E (h n) ≡ mapPayee v (payeeOf L D n)
+  payeeOf-n : (n : N) → payeeOf E (h n) ≡ mapPayee v (payeeOf D n)
   unfolding payeeOf mapPayee
   payeeOf-n n = simp (maps, kid-n, kidText-n, identifierOf-n)
 
-  periodOf-n : (n : N) → periodOf L E (h n) ≡ mapAct v (λ t. t) (periodOf L D n)
+  periodOf-n : (n : N) → periodOf (L .mode) E (h n) ≡ mapAct v (λ t. t) (periodOf (L .mode) D n)
   unfolding periodOf mapAct
   periodOf-n n = simp (maps, date-n)
 
-  paymentTermsOf-n : (n : N) → paymentTermsOf L E (h n) ≡ mapAct v (mapPaymentTerms v) (paymentTermsOf L D n)
+  paymentTermsOf-n : (n : N) → paymentTermsOf (L .mode) E (h n) ≡ mapAct v (mapPaymentTerms v) (paymentTermsOf (L .mode) D n)
   unfolding paymentTermsOf mapAct mapPaymentTerms
   paymentTermsOf-n n = simp (maps, date-n, kid-n, H .text, kidText-n)
 
@@ -405,36 +394,36 @@ module _ {N M X Y : Type 0} (L : Lent) (D : Doc N X) (E : Doc M Y) (h : N → M)
   own-n other b s cur n = simp (maps, H .name)
 
   -- the walk
-  kindOf-n : (n : N) → kindOf L E (h n) ≡ kindOf L D n
+  kindOf-n : (n : N) → kindOf E (h n) ≡ kindOf D n
   unfolding kindOf
   kindOf-n n = simp (H .name, H .bytes)
 
-  seen-n : (k : Kind) (s : State X) → seen L E k (mapState v s) ≡ mapCurrencies v (seen L D k s)
+  seen-n : (k : Kind) (s : State X) → seen k (mapState v s) ≡ mapCurrencies v (seen k s)
   unfolding seen soFar unseen mapCurrencies
-  seen-n k s = sym (cond-map (mapCurrencies v) (sameKind k summation) (soFar L D s) (unseen L D))
+  seen-n k s = sym (cond-map (mapCurrencies v) (sameKind k summation) (soFar s) (unseen))
 
   act-n : (l : Kind) (s : State X) (n : N) → act L E l (mapState v s) (h n) ≡ mapAct v (mapOf v l) (act L D l s n)
   unfolding act
-  act-n l s n = rw (kindOf-n n, seen-n (kindOf L D n) s) (own-n l (sameKind (kindOf L D n) logisticsCharge) (s l) (seen L D (kindOf L D n) s) n)
+  act-n l s n = rw (kindOf-n n, seen-n (kindOf D n) s) (own-n l (sameKind (kindOf D n) logisticsCharge) (s l) (seen (kindOf D n) s) n)
 
   step-n : (s : State X) (n : N) → step L E (mapState v s) (h n) ≡ mapState v (step L D s n)
   unfolding step mapAct
-  step-n s n = fun-ext (λ l. rw (kindOf-n n, act-n l s n) (sym (cond-map (mapOf v l) (sameKind l (home (kindOf L D n))) (act L D l s n .next) (s l))))
+  step-n s n = fun-ext (λ l. rw (kindOf-n n, act-n l s n) (sym (cond-map (mapOf v l) (sameKind l (home (kindOf D n))) (act L D l s n .next) (s l))))
 
   saysOf-n : (s : State X) (n : N) → saysOf L E (mapState v s) (h n) ≡ map (mapEntry v) (saysOf L D s n)
   unfolding saysOf mapAct
   saysOf-n s n =
-      ap (λ (k : Kind). act L E (home k) (mapState v s) (h n) .says) (kindOf-n n) ∙ ap (λ (a : Act Y (Of Y (home (kindOf L D n)))). a .says) (act-n (home (kindOf L D n)) s n)
+      ap (λ (k : Kind). act L E (home k) (mapState v s) (h n) .says) (kindOf-n n) ∙ ap (λ (a : Act Y (Of Y (home (kindOf D n)))). a .says) (act-n (home (kindOf D n)) s n)
 
   holdsOf-n : (s : State X) (n : N) → holdsOf L E (mapState v s) (h n) ≡ map (mapHeld v) (holdsOf L D s n)
   unfolding holdsOf mapAct
   holdsOf-n s n =
-      ap (λ (k : Kind). act L E (home k) (mapState v s) (h n) .holds) (kindOf-n n) ∙ ap (λ (a : Act Y (Of Y (home (kindOf L D n)))). a .holds) (act-n (home (kindOf L D n)) s n)
+      ap (λ (k : Kind). act L E (home k) (mapState v s) (h n) .holds) (kindOf-n n) ∙ ap (λ (a : Act Y (Of Y (home (kindOf D n)))). a .holds) (act-n (home (kindOf D n)) s n)
 
   straysOf-n : (s : State X) (n : N) → straysOf L E (mapState v s) (h n) ≡ map (mapUnmapped v) (straysOf L D s n)
   unfolding straysOf mapAct
   straysOf-n s n =
-      ap (λ (k : Kind). act L E (home k) (mapState v s) (h n) .strays) (kindOf-n n) ∙ ap (λ (a : Act Y (Of Y (home (kindOf L D n)))). a .strays) (act-n (home (kindOf L D n)) s n)
+      ap (λ (k : Kind). act L E (home k) (mapState v s) (h n) .strays) (kindOf-n n) ∙ ap (λ (a : Act Y (Of Y (home (kindOf D n)))). a .strays) (act-n (home (kindOf D n)) s n)
 
   said-n : {A B : Type 0} (f : State X → N → List A) (g : State Y → M → List B) (m : A → B) → ((s : State X) (c : N) → g (mapState v s) (h c) ≡ map m (f s c)) → (s : State X) (cs : List N) → said (step L E) g (mapState v s) (map h cs) ≡ map m (said (step L D) f s cs)
   unfolding said
@@ -466,10 +455,10 @@ module _ {N M X Y : Type 0} (L : Lent) (D : Doc N X) (E : Doc M Y) (h : N → M)
   after-n cs = ap (λ (s : State Y). foldl (step L E) s (map h cs)) (sym (fun-ext blank-n)) ∙ foldl-n (step L D) (step L E) (mapState v) step-n (blank X) cs
 
   -- the end
-  unfoldable mapDebit : Debit L D → Debit L E
+  unfoldable mapDebit : Debit X → Debit Y
   mapDebit d = record { means = mapMeans v (d .means); mandate = Option·map v (d .mandate); creditor = Option·map v (d .creditor); says = map (mapEntry v) (d .says) }
 
-  debited-n : (k : Means X) (a c : Option X) → debited L E (mapMeans v k) (Option·map v a) (Option·map v c) ≡ mapDebit (debited L D k a c)
+  debited-n : (k : Means X) (a c : Option X) → debited (mapMeans v k) (Option·map v a) (Option·map v c) ≡ mapDebit (debited k a c)
   unfolding debited besides mapDebit mapMeans entry mapEntry
   debited-n unset none none = refl
   debited-n unset none (some c) = refl
@@ -484,11 +473,11 @@ module _ {N M X Y : Type 0} (L : Lent) (D : Doc N X) (E : Doc M Y) (h : N → M)
   debited-n transfers (some a) none = refl
   debited-n transfers (some a) (some c) = refl
 
-  debitOf-n : (s : State X) → debitOf L E (mapState v s) ≡ mapDebit (debitOf L D s)
+  debitOf-n : (s : State X) → debitOf (mapState v s) ≡ mapDebit (debitOf s)
   unfolding debitOf mapPayment mapPaymentTerms
   debitOf-n s = debited-n (s paymentMeans .means) (s paymentTerms .mandate) (s creditorReference)
 
-  lateOf-n : (s : State X) → lateOf L E (mapState v s) ≡ map (mapEntry v) (lateOf L D s)
+  lateOf-n : (s : State X) → lateOf (L .rules) (mapState v s) ≡ map (mapEntry v) (lateOf (L .rules) s)
   unfolding lateOf mapDebit
   lateOf-n s = simp (maps, missing-n, debitOf-n)
 
@@ -496,11 +485,11 @@ module _ {N M X Y : Type 0} (L : Lent) (D : Doc N X) (E : Doc M Y) (h : N → M)
   reference-n none = refl
   reference-n (some o) = refl
 
-  termsOf-n : (s : State X) → termsOf L E (mapState v s) ≡ mapTerms v (termsOf L D s)
+  termsOf-n : (s : State X) → termsOf (mapState v s) ≡ mapTerms v (termsOf s)
   unfolding termsOf mapTerms mapPayment mapVatState mapPaymentTerms mapDebit
   termsOf-n s = simp (debitOf-n, none-map, reference-n)
 
-  order-n : (a b : Unmapped X) → unmappedOrder L E (mapUnmapped v a) (mapUnmapped v b) ≡ unmappedOrder L D a b
+  order-n : (a b : Unmapped X) → unmappedOrder E (mapUnmapped v a) (mapUnmapped v b) ≡ unmappedOrder D a b
   unfolding unmappedOrder unmappedKey mapUnmapped
   order-n a b = simp (H .bytes)
 
@@ -518,7 +507,7 @@ module _ {N M X Y : Type 0} (L : Lent) (D : Doc N X) (E : Doc M Y) (h : N → M)
         said-blank (holdsOf L D) (holdsOf L E) (mapHeld v) holdsOf-n,
         said-blank (saysOf L D) (saysOf L E) (mapEntry v) saysOf-n,
         said-blank (straysOf L D) (straysOf L E) (mapUnmapped v) straysOf-n,
-        insertAll-map (unmappedOrder L D) (unmappedOrder L E) (mapUnmapped v) order-n,
+        insertAll-map (unmappedOrder D) (unmappedOrder E) (mapUnmapped v) order-n,
       )
 
   -- read, then map, is map, then read

@@ -7,6 +7,7 @@ use native.Mathlib.Nat.{sub-zero, zero-sub, suc-sub-suc, zero-min, min-zero, suc
 use native.Mathlib.Omega.{arith}
 use lib.ListN.{take, drop}
 use lib.Seq.{take-nil, drop-drop}
+use Rattle.text.specs.Span.{clipped}
 use Rattle.report.specs.Rows.{Place}
 use Rattle.table.specs.Table.{records, kin, below, kids}
 use Rattle.table.proofs.Kin.{kin-parts}
@@ -61,7 +62,7 @@ module _ (t x : List ℕ) where
   deep (suc d) i l = ap (λ (c : List Tree). element t x i (forest c)) (below-map (tree t x d) (tree t x (suc d)) i (records t) (λ m h. deep d m (omega arith)))
 
   cuts : (p : Place) (a b : ℕ) → take b (drop a (shows x p)) ≡ shows x (record { start = p .start + a; len = min b (p .len - a) })
-  unfolding shows
+  unfolding shows clipped
   cuts p a b = simp (drop-take, take-min, drop-drop)
 
   pub hom : Hom (tableDoc t x) treeDoc (treeOf t x) (shows x)
@@ -74,5 +75,5 @@ module _ (t x : List ℕ) where
         kids = λ n. trees-forest _ ∙ below-map (tree t x (records t)) (tree t x (suc (records t))) n (records t) (λ m h. deep (records t) m (omega arith));
         bytes = λ p. refl;
         cut = cuts;
-        empty = unfold shows in refl;
+        empty = unfold shows clipped in refl;
       }

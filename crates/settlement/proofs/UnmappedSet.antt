@@ -101,29 +101,29 @@ module _ {A : Type 0} (c : A → A → Ordering) (turned : (a b : A) → c b a �
       go (inr q) = inr (inr q)
 
 module _ {N X : Type 0} (L : Lent) (D : Doc N X) (cs : List N) where
-  key-turned : (a b : Unmapped X) → unmappedOrder L D b a ≡ opposite (unmappedOrder L D a b)
+  key-turned : (a b : Unmapped X) → unmappedOrder D b a ≡ opposite (unmappedOrder D a b)
   unfolding unmappedOrder
-  key-turned a b = order-turned (unmappedKey L D a) (unmappedKey L D b)
+  key-turned a b = order-turned (unmappedKey D a) (unmappedKey D b)
 
-  key-joined : (a b d : Unmapped X) → unmappedOrder L D a b ≡ Ordering·eq → unmappedOrder L D b d ≡ Ordering·eq → unmappedOrder L D a d ≡ Ordering·eq
+  key-joined : (a b d : Unmapped X) → unmappedOrder D a b ≡ Ordering·eq → unmappedOrder D b d ≡ Ordering·eq → unmappedOrder D a d ≡ Ordering·eq
   unfolding unmappedOrder
-  key-joined a b d e f = rw (order-is (unmappedKey L D a) (unmappedKey L D b) e) f
+  key-joined a b d e f = rw (order-is (unmappedKey D a) (unmappedKey D b) e) f
 
   -- unmapped names ascend by parent, then by name, each pair once
-  pub unmapped-ascends : Ascending (unmappedOrder L D) (readingOf L D cs .unmapped)
+  pub unmapped-ascends : Ascending (unmappedOrder D) (readingOf L D cs .unmapped)
   unfolding readingOf
-  unmapped-ascends = all-ascending (unmappedOrder L D) key-turned key-joined [] (said (step L D) (straysOf L D) (blank X) cs) tt
+  unmapped-ascends = all-ascending (unmappedOrder D) key-turned key-joined [] (said (step L D) (straysOf L D) (blank X) cs) tt
 
   -- each that was met is among them
-  pub unmapped-there : (a : Unmapped X) → Present (unmappedOrder L D) a (said (step L D) (straysOf L D) (blank X) cs) → Present (unmappedOrder L D) a (readingOf L D cs .unmapped)
+  pub unmapped-there : (a : Unmapped X) → Present (unmappedOrder D) a (said (step L D) (straysOf L D) (blank X) cs) → Present (unmappedOrder D) a (readingOf L D cs .unmapped)
   unfolding readingOf
-  unmapped-there a p = all-there (unmappedOrder L D) key-turned key-joined a [] (said (step L D) (straysOf L D) (blank X) cs) (inr p)
+  unmapped-there a p = all-there (unmappedOrder D) key-turned key-joined a [] (said (step L D) (straysOf L D) (blank X) cs) (inr p)
 
   -- and no other
-  pub unmapped-only : (a : Unmapped X) → Present (unmappedOrder L D) a (readingOf L D cs .unmapped) → Present (unmappedOrder L D) a (said (step L D) (straysOf L D) (blank X) cs)
+  pub unmapped-only : (a : Unmapped X) → Present (unmappedOrder D) a (readingOf L D cs .unmapped) → Present (unmappedOrder D) a (said (step L D) (straysOf L D) (blank X) cs)
   unfolding readingOf
-  unmapped-only a p = go (all-only (unmappedOrder L D) key-turned key-joined a [] (said (step L D) (straysOf L D) (blank X) cs) p)
+  unmapped-only a p = go (all-only (unmappedOrder D) key-turned key-joined a [] (said (step L D) (straysOf L D) (blank X) cs) p)
     where
-      go : Present (unmappedOrder L D) a [] ⊎ Present (unmappedOrder L D) a (said (step L D) (straysOf L D) (blank X) cs) → Present (unmappedOrder L D) a (said (step L D) (straysOf L D) (blank X) cs)
+      go : Present (unmappedOrder D) a [] ⊎ Present (unmappedOrder D) a (said (step L D) (straysOf L D) (blank X) cs) → Present (unmappedOrder D) a (said (step L D) (straysOf L D) (blank X) cs)
       go (inl q) = absurd q
       go (inr q) = q

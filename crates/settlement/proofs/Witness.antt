@@ -7,13 +7,13 @@ use native.Mathlib.Omega.{arith}
 use lib.ListN.{getD}
 use Rattle.text.specs.Order.{equal}
 use Rattle.text.specs.Range.{within}
-use Rattle.text.specs.Span.{partOf}
+use Rattle.text.specs.Span.{clipped}
 use Rattle.text.specs.Span.{cut as cutAt}
 use Rattle.text.specs.Utf8.{encode, bytes, tail, scalar, two, three, four, charOf, front, chars, allGood, utf8}
 use Rattle.codes.specs.Rules.{bit, inForce}
-use Rattle.table.specs.Table.{nameOf, textOf, named, kin, below, kids, firstOf, firstNamed, attribute}
+use Rattle.table.specs.Table.{nameOf, textOf, named, kin, below, kids, attrs, firstOf}
 use Rattle.table.specs.Refusals.{ragged, oversized, notRoot, misplaced, beyond, outside, notUtf8, notSettlement, firstFrom, recordRefusal, sizeRefusal, refusal}
-use Rattle.report.specs.Message.{messageNumber}
+use Rattle.names.specs.Message.{messageNumber}
 use Rattle.report.specs.Rows.{Place, Entry}
 use Rattle.settlement.specs.Shapes.{Reading}
 use Rattle.settlement.specs.Values.{Lent, entry, first, kid, kidText, missing, requiredAmount, requiredCode, percent, notVat, amount, date}
@@ -57,11 +57,11 @@ unfoldable pub right-text : List ℕ
 right-text = bytes "unitSpecifiedTradeAllowanceChargeApplicableTradeTaxApplicableHeaderTradeSettlement"
 
 pub left-read : outcome lent room left-table left-text ≡ read (reading lent (tableDoc left-table left-text) 0)
-unfolding left-table left-text outcome callRefusal unknownMode unknownRules cramped refusal ragged sizeRefusal oversized notRoot recordRefusal firstFrom misplaced outside beyond notUtf8 notSettlement nameOf textOf named equal bytes encode partOf cutAt utf8 chars front charOf two three four tail scalar allGood within
+unfolding left-table left-text outcome callRefusal unknownMode unknownRules cramped refusal ragged sizeRefusal oversized notRoot recordRefusal firstFrom misplaced outside beyond notUtf8 notSettlement nameOf textOf named equal bytes encode clipped cutAt utf8 chars front charOf two three four tail scalar allGood within
 left-read = refl
 
 pub right-read : outcome lent room right-table right-text ≡ read (reading lent (tableDoc right-table right-text) 0)
-unfolding right-table right-text outcome callRefusal unknownMode unknownRules cramped refusal ragged sizeRefusal oversized notRoot recordRefusal firstFrom misplaced outside beyond notUtf8 notSettlement nameOf textOf named equal bytes encode partOf cutAt utf8 chars front charOf two three four tail scalar allGood within
+unfolding right-table right-text outcome callRefusal unknownMode unknownRules cramped refusal ragged sizeRefusal oversized notRoot recordRefusal firstFrom misplaced outside beyond notUtf8 notSettlement nameOf textOf named equal bytes encode clipped cutAt utf8 chars front charOf two three four tail scalar allGood within
 right-read = refl
 
 -- texts that are the same have the same first byte
@@ -84,7 +84,7 @@ different e = absurd (let h : _≡_ {A = ℕ} 65 83 = head e in omega arith)
 
 -- the trees differ by an exchange of the two children
 pub witness : Exchanged treeDoc (treeOf left-table left-text 0) (treeOf right-table right-text 0)
-unfolding left-table left-text right-table right-text treeDoc treeOf tree element tableDoc ownTextAt shows kids below kin attribute firstNamed firstOf bytes encode
+unfolding left-table left-text right-table right-text treeDoc treeOf tree element tableDoc ownTextAt shows clipped kids below kin attrs named firstOf bytes encode
 witness = record { pre = []; x = treeOf left-table left-text 2; y = treeOf left-table left-text 3; post = []; left = refl; right = refl; names = different; allowed = free }
 
 -- the messages of a reading, in order
@@ -93,9 +93,9 @@ messagesOf r = map (λ (e : Entry Place). messageNumber (e .message)) (r .entrie
 
 -- what is absent in the VAT breakdown comes first on the left, and in the allowance on the right
 pub left-messages : messagesOf (reading lent (tableDoc left-table left-text) 0) ≡ 9 ∷ 9 ∷ 9 ∷ 19 ∷ 9 ∷ 9 ∷ 9 ∷ 9 ∷ 9 ∷ 9 ∷ []
-unfolding left-table left-text reading readingOf said step saysOf act own kindOf kindNamed kinds meant home sameKind seen tradeTaxOf pointDate pointCode date requiredAmount requiredCode percent notVat allowanceOrCharge allowanceChargeOf isCharge indicator categoryOf amount kid kidText first missing entry inForce bit after lateOf debitOf debited tableDoc ownTextAt shows kids below kin equal bytes encode
+unfolding left-table left-text reading readingOf said step saysOf act own kindOf kindNamed kinds meant home sameKind seen tradeTaxOf pointDate pointCode date requiredAmount requiredCode percent notVat allowanceOrCharge allowanceChargeOf isCharge indicator categoryOf amount kid kidText first missing entry inForce bit after lateOf debitOf debited tableDoc ownTextAt shows clipped kids below kin equal bytes encode
 left-messages = refl
 
 pub right-messages : messagesOf (reading lent (tableDoc right-table right-text) 0) ≡ 19 ∷ 9 ∷ 9 ∷ 9 ∷ 9 ∷ 9 ∷ 9 ∷ 9 ∷ 9 ∷ 9 ∷ []
-unfolding right-table right-text reading readingOf said step saysOf act own kindOf kindNamed kinds meant home sameKind seen tradeTaxOf pointDate pointCode date requiredAmount requiredCode percent notVat allowanceOrCharge allowanceChargeOf isCharge indicator categoryOf amount kid kidText first missing entry inForce bit after lateOf debitOf debited tableDoc ownTextAt shows kids below kin equal bytes encode
+unfolding right-table right-text reading readingOf said step saysOf act own kindOf kindNamed kinds meant home sameKind seen tradeTaxOf pointDate pointCode date requiredAmount requiredCode percent notVat allowanceOrCharge allowanceChargeOf isCharge indicator categoryOf amount kid kidText first missing entry inForce bit after lateOf debitOf debited tableDoc ownTextAt shows clipped kids below kin equal bytes encode
 right-messages = refl

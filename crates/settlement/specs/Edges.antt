@@ -11,9 +11,9 @@ use Rattle.text.specs.Utf8.{bytes}
 use Rattle.amount.specs.Amount.{parsedAmount}
 use Rattle.codes.specs.VatPoint.{vatPointDateCodeOf}
 use Rattle.date.specs.Date.{parsedDate}
-use Rattle.report.specs.declared.message.Message.the-variants as Message
-use Rattle.report.specs.declared.path.Path.the-variants as Path
-use Rattle.report.specs.declared.term.Term.the-variants as Term
+use Rattle.names.specs.declared.message.Message.the-variants as Message
+use Rattle.names.specs.declared.path.Path.the-variants as Path
+use Rattle.names.specs.declared.term.Term.the-variants as Term
 use Rattle.settlement.specs.Values.{Lent}
 use Rattle.settlement.specs.Settlement.{reading}
 use Rattle.settlement.specs.Tree.{Tree, node, nothing, forest, treeDoc}

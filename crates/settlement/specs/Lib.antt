@@ -15,6 +15,8 @@ pub mod Alike
 pub mod Exchange
 pub mod Last
 pub mod Sorted
+pub mod Fits
+pub mod Inside
 pub mod ChildRows
 pub mod Transfers
 pub mod Edges

@@ -2,10 +2,11 @@
 use mathlib.Core.Bool.{Bool, true, false, cond}
 use mathlib.Core.List.{List, [], _∷_, flatMap}
 use mathlib.Core.Option.{Option, none}
+use Rattle.text.specs.Utf8.{bytes}
 use Rattle.report.specs.Rows.{Transfer, Held, transfer, vat, allowance, charge, preceding}
 use Rattle.settlement.specs.Document.{Doc, maybe}
 use Rattle.settlement.specs.Shapes.{Means, unset, card, debit, transfers}
-use Rattle.settlement.specs.Values.{Lent, kidText}
+use Rattle.settlement.specs.Values.{kidText}
 use Rattle.settlement.specs.Payments.{accountOf}
 use Rattle.settlement.specs.Alike.{keep}
 use Rattle.settlement.specs.Last.{isNamed, lastNamed}
@@ -32,7 +33,7 @@ unprovided (allowance a) = allowance a
 unprovided (charge a) = charge a
 unprovided (preceding p) = preceding p
 
-module _ {N X : Type 0} (L : Lent) (D : Doc N X) where
+module _ {N X : Type 0} (D : Doc N X) where
   -- the payment means of a settlement
   unfoldable pub paymentMeansIn : List N → List N
   paymentMeansIn cs = keep (isNamed D "SpecifiedTradeSettlementPaymentMeans") cs
@@ -48,8 +49,8 @@ module _ {N X : Type 0} (L : Lent) (D : Doc N X) where
   -- the kind that a part fixes: a card's, a debited account's or an account's
   unfoldable pub fixes : N → Means X
   fixes c =
-      cond (isNamed D "ApplicableTradeSettlementFinancialCard" c) (card (kidText L D 0 c "ID") (kidText L D 0 c "CardholderName"))
-      (cond (isNamed D "PayerPartyDebtorFinancialAccount" c) (debit (accountOf L D c)) (cond (isAccount c) transfers unset))
+      cond (isNamed D "ApplicableTradeSettlementFinancialCard" c) (card (kidText D 0 c (bytes "ID")) (kidText D 0 c (bytes "CardholderName")))
+      (cond (isNamed D "PayerPartyDebtorFinancialAccount" c) (debit (accountOf D c)) (cond (isAccount c) transfers unset))
 
   -- the first of them counts
   unfoldable pub fixed : List N → Means X
@@ -63,11 +64,11 @@ module _ {N X : Type 0} (L : Lent) (D : Doc N X) where
 
   -- BT-86: the BICID of the last institution that follows an account, before the next one
   unfoldable pub providerAfter : List N → Option X
-  providerAfter cs = maybe none (λ i. kidText L D 0 i "BICID") (lastNamed D "PayeeSpecifiedCreditorFinancialInstitution" (untilAccount cs))
+  providerAfter cs = maybe none (λ i. kidText D 0 i (bytes "BICID")) (lastNamed D "PayeeSpecifiedCreditorFinancialInstitution" (untilAccount cs))
 
   -- BT-84, BT-85, and BT-86 as given
   unfoldable pub transferRow : N → Option X → Transfer X
-  transferRow c o = record { account = accountOf L D c; name = kidText L D 0 c "AccountName"; provider = o }
+  transferRow c o = record { account = accountOf D c; name = kidText D 0 c (bytes "AccountName"); provider = o }
 
   -- a transfer for each account of a payment means
   unfoldable pub transfersIn : List N → List (Transfer X)

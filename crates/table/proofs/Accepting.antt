@@ -48,15 +48,15 @@ first-offends p (suc m) j r e = go (p j) refl e (first-offends p m (suc j) r)
     go false q f s = let u = s f in (u .0, λ k h h′. elim (ℕ-discrete k j) [ yes z ↦ rw z q | no z ↦ u .1 k (omega arith) h′ ])
 
 -- a refusal that did not happen
-passed-on : (n : ℕ) (o : Option ℕ) (next : Option (ℕ × ℕ)) → refuse n o next ≡ none → (o ≡ none) × (next ≡ none)
+pub passed-on : (n : ℕ) (o : Option ℕ) (next : Option (ℕ × ℕ)) → refuse n o next ≡ none → (o ≡ none) × (next ≡ none)
 passed-on n none next e = (refl, e)
 passed-on n (some r) next e = some≢none e
 
-at-none : (b : Bool) → atRoot b ≡ none → b ≡ false
+pub at-none : (b : Bool) → atRoot b ≡ none → b ≡ false
 at-none true e = some≢none e
 at-none false e = refl
 
-neither : (p q : Bool) → (p || q) ≡ false → (p ≡ false) × (q ≡ false)
+pub neither : (p q : Bool) → (p || q) ≡ false → (p ≡ false) × (q ≡ false)
 neither true q e = absurd (not-both refl e)
 neither false q e = (refl, e)
 

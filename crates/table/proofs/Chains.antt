@@ -1,77 +1,121 @@
--- The turns of the loops over links: that which fills them, and the search for a name among those that they spell.
+-- The turns of the loops over links: that which fills them, and those over the list that they spell, at record c with `left` steps to go.
 use mathlib.Core.Path.{_≡_, refl, sym, ap, _∙_}
 use mathlib.Core.Logic.{_≢_}
 use mathlib.Core.Bool.{Bool, true, false}
-use mathlib.Core.List.{List, [], _∷_}
+use mathlib.Core.List.{List, [], _∷_, foldl}
 use mathlib.Core.Option.{Option, none, some}
-use Prim.Native.Nat.{ℕ, zero, suc, _-_, _≤_, _<_}
+use Prim.Native.Nat.{ℕ, zero, suc, _+_, _*_, _-_, _/_, _≤_, _<_}
 use native.Mathlib.Omega.{arith}
-use borrow.Author.Tests.{eq-eqb, ne-eqb, le-leb}
+use borrow.Author.Tests.{ne-eqb, le-leb, lt-leb}
 use lib.ListN.{length, getD}
-use Rattle.table.specs.Table.{records, firstOf, found}
-use Rattle.table.specs.Links.{chain, linked, firstAfter, nextAfter, Arrays, arrays, linkOne, linkBelow, roomy, linkAll}
+use Rattle.table.specs.Table.{records, cell, firstOf, found}
+use Rattle.table.specs.Links.{link, chain, linked, inFront, joins, linkOne, linkBelow, roomy, linkAll}
+use Rattle.table.proofs.Records.{past}
 
--- the loop that fills the arrays, from j down
-module _ (t : List ℕ) (E : Arrays) (j : ℕ) (f a n : List ℕ) (e : E ≡ linkBelow t j (arrays f a n)) where
-  pub fill-on :
-      0 < j → (f′ mid : List ℕ) → f′ ≡ firstAfter t 1 (j - 1) f → mid ≡ nextAfter t 1 (j - 1) f n → (a′ n′ : List ℕ) → a′ ≡ firstAfter t 2 (j - 1) a → n′ ≡ nextAfter t 2 (j - 1) a mid →
-      E ≡ linkBelow t (j - 1) (arrays f′ a′ n′)
-  unfolding linkBelow linkOne
-  fill-on h f′ mid p q a′ n′ p′ q′ = e ∙ go j h p q p′ q′
+-- the link that the code reads, and one past the end
+pub link-is : (l : List ℕ) (i k n : ℕ) → n ≡ getD l (i * 3 + k) 0 → n ≡ link l i k
+unfolding link
+link-is l i k n e = e
+
+pub link-past : (l : List ℕ) (i k : ℕ) → length l ≤ i → 0 ≡ link l i k
+unfolding link
+link-past l i k h = past l (i * 3 + k) (omega arith)
+
+-- one record linked, or passed over
+module _ (t l : List ℕ) (j kind p : ℕ) (k : kind ≡ cell t j 0) (q : p ≡ cell t j 1) (b : Bool) (e : b ≡ joins kind p j) where
+  pub one-joins : b ≡ true → (l′ : List ℕ) → l′ ≡ inFront l (kind - 1) p j → l′ ≡ linkOne t j l
+  unfolding linkOne
+  one-joins f l′ u = u ∙ rw (← k, ← q, ← e, f)
+
+  pub one-not : b ≡ false → l ≡ linkOne t j l
+  unfolding linkOne
+  one-not f = rw (← k, ← q, ← e, f)
+
+-- the loop that fills the array, from j down
+module _ (t E : List ℕ) (j : ℕ) (l : List ℕ) (e : E ≡ linkBelow t j l) where
+  pub fill-on : 0 < j → (l′ : List ℕ) → l′ ≡ linkOne t (j - 1) l → E ≡ linkBelow t (j - 1) l′
+  unfolding linkBelow
+  fill-on h l′ q = e ∙ go j h q
     where
-      go : (j : ℕ) → 0 < j → f′ ≡ firstAfter t 1 (j - 1) f → mid ≡ nextAfter t 1 (j - 1) f n → a′ ≡ firstAfter t 2 (j - 1) a → n′ ≡ nextAfter t 2 (j - 1) a mid →
-          linkBelow t j (arrays f a n) ≡ linkBelow t (j - 1) (arrays f′ a′ n′)
-      go zero h p q p′ q′ = absurd (omega arith)
-      go (suc j) h p q p′ q′ = let s : suc j - 1 ≡ j = omega arith in rw (p, p′, q′, q, s)
+      go : (j : ℕ) → 0 < j → l′ ≡ linkOne t (j - 1) l → linkBelow t j l ≡ linkBelow t (j - 1) l′
+      go zero h q = absurd (omega arith)
+      go (suc j) h q = let s : suc j - 1 ≡ j = omega arith in rw (q, s)
 
-  pub fill-end : j ≤ 0 → arrays f a n ≡ E
+  pub fill-end : j ≤ 0 → l ≡ E
   unfolding linkBelow
   fill-end h = let z : j ≡ 0 = omega arith in sym (e ∙ rw z)
 
 -- room, and none
-module _ (t : List ℕ) (f a n : List ℕ) where
-  pub link-roomy : records t ≤ length f → records t ≤ length a → records t ≤ length n → records t ≤ 65536 → (r : Arrays) → r ≡ linkBelow t (records t) (arrays f a n) → r ≡ linkAll t (arrays f a n)
+module _ (t l : List ℕ) where
+  pub link-roomy : records t * 3 ≤ length l → records t ≤ 65536 → (r : List ℕ) → r ≡ linkBelow t (records t) l → r ≡ linkAll t l
   unfolding linkAll roomy
-  link-roomy h₁ h₂ h₃ h₄ r e = e ∙ rw (le-leb (records t) (length f) h₁, le-leb (records t) (length a) h₂, le-leb (records t) (length n) h₃, le-leb (records t) 65536 h₄)
+  link-roomy h h′ r e = e ∙ rw (le-leb (records t * 3) (length l) h, le-leb (records t) 65536 h′)
 
--- the search among those that the links spell, at record c with `left` steps to go
-module _ (next : List ℕ) (p : ℕ → Bool) where
-  pub search-start : (first : List ℕ) (i c : ℕ) → c ≡ getD first i 0 → firstOf p (linked first next i) ≡ firstOf p (chain next (length next) c)
+  pub link-many : records t * 3 ≤ length l → 65536 < records t → l ≡ linkAll t l
+  unfolding linkAll roomy
+  link-many h h′ = rw (le-leb (records t * 3) (length l) h, lt-leb (records t) 65536 h′)
+
+  pub link-cramped : length l < records t * 3 → l ≡ linkAll t l
+  unfolding linkAll roomy
+  link-cramped h = rw (lt-leb (records t * 3) (length l) h)
+
+-- every loop over a chain
+module _ (links : List ℕ) where
+  pub chain-start : (k i c : ℕ) → c ≡ link links i k → linked links k i ≡ chain links (length links / 3) c
   unfolding linked
-  search-start first i c e = rw e
+  chain-start k i c e = rw e
 
-  chain-on : (left c : ℕ) → 0 < left → c ≢ 0 → chain next left c ≡ c ∷ chain next (left - 1) (getD next c 0)
+  pub chain-turn : (f c : ℕ) → 0 < f → c ≢ 0 → chain links f c ≡ c ∷ chain links (f - 1) (link links c 2)
   unfolding chain
-  chain-on zero c h e = absurd (omega arith)
-  chain-on (suc f) c h e = rw (ne-eqb c 0 e) (ap (λ (g : ℕ). c ∷ chain next g (getD next c 0)) {x = f} {y = suc f - 1} (omega arith))
+  chain-turn zero c h z = absurd (omega arith)
+  chain-turn (suc f) c h z = rw (ne-eqb c 0 z) (ap (λ (g : ℕ). c ∷ chain links g (link links c 2)) {x = f} {y = suc f - 1} (omega arith))
 
-  chain-none : (left c : ℕ) → c ≡ 0 → chain next left c ≡ []
+  pub chain-zero : (f : ℕ) → chain links f 0 ≡ []
   unfolding chain
-  chain-none zero c e = refl
-  chain-none (suc f) c e = rw (eq-eqb c 0 e)
+  chain-zero zero = refl
+  chain-zero (suc f) = refl
 
-  chain-out : (left c : ℕ) → left ≤ 0 → chain next left c ≡ []
+  pub chain-out : (c : ℕ) → chain links 0 c ≡ []
   unfolding chain
-  chain-out zero c h = refl
-  chain-out (suc f) c h = absurd (omega arith)
+  chain-out c = refl
+
+-- a walk with a state s
+module _ {S : Type 0} (f : S → ℕ → S) (links : List ℕ) where
+  pub fold-start : (k i c : ℕ) (s : S) → c ≡ link links i k → foldl f s (linked links k i) ≡ foldl f s (chain links (length links / 3) c)
+  fold-start k i c s e = ap (foldl f s) (chain-start links k i c e)
+
+  module _ (o s : S) (left c : ℕ) (e : o ≡ foldl f s (chain links left c)) where
+    pub fold-turn : 0 < left → c ≢ 0 → (s′ : S) → s′ ≡ f s c → (d : ℕ) → d ≡ link links c 2 → o ≡ foldl f s′ (chain links (left - 1) d)
+    fold-turn h z s′ q d u = e ∙ rw (chain-turn links left c h z, q, u)
+
+    pub fold-zero : c ≡ 0 → s ≡ o
+    fold-zero z = sym (e ∙ rw (z, chain-zero links left))
+
+    pub fold-out : left ≤ 0 → s ≡ o
+    fold-out h = let z : left ≡ 0 = omega arith in sym (e ∙ rw (z, chain-out links c))
+
+-- the search for the first that passes
+module _ (links : List ℕ) (p : ℕ → Bool) where
+  pub search-start : (k i c : ℕ) (o : Option ℕ) → c ≡ link links i k → o ≡ firstOf p (chain links (length links / 3) c) → o ≡ firstOf p (linked links k i)
+  search-start k i c o e q = q ∙ ap (firstOf p) (sym (chain-start links k i c e))
 
   found-some : (c : ℕ) → c ≢ 0 → found c ≡ some c
   found-some zero e = absurd (e refl)
   found-some (suc c) e = refl
 
-  module _ (o : Option ℕ) (left c : ℕ) (e : o ≡ firstOf p (chain next left c)) where
-    pub search-none : c ≡ 0 → none ≡ o
+  module _ (o : Option ℕ) (left c : ℕ) (e : o ≡ firstOf p (chain links left c)) where
+    pub search-zero : c ≡ 0 → none ≡ o
     unfolding firstOf
-    search-none z = sym (e ∙ rw (chain-none left c z))
+    search-zero z = sym (e ∙ rw (z, chain-zero links left))
 
     pub search-out : left ≤ 0 → none ≡ o
     unfolding firstOf
-    search-out h = sym (e ∙ rw (chain-out left c h))
+    search-out h = let z : left ≡ 0 = omega arith in sym (e ∙ rw (z, chain-out links c))
 
     pub search-here : 0 < left → c ≢ 0 → (b : Bool) → b ≡ p c → b ≡ true → found c ≡ o
     unfolding firstOf
-    search-here h z b q f = found-some c z ∙ sym (e ∙ rw (chain-on left c h z, ← q, f))
+    search-here h z b q f = found-some c z ∙ sym (e ∙ rw (chain-turn links left c h z, ← q, f))
 
-    pub search-on : 0 < left → c ≢ 0 → (b : Bool) → b ≡ p c → b ≡ false → (d : ℕ) → d ≡ getD next c 0 → o ≡ firstOf p (chain next (left - 1) d)
+    pub search-turn : 0 < left → c ≢ 0 → (b : Bool) → b ≡ p c → b ≡ false → (d : ℕ) → d ≡ link links c 2 → o ≡ firstOf p (chain links (left - 1) d)
     unfolding firstOf
-    search-on h z b q f d u = e ∙ rw (chain-on left c h z, ← q, f, u)
+    search-turn h z b q f d u = e ∙ rw (chain-turn links left c h z, ← q, f, u)

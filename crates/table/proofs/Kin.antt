@@ -10,12 +10,11 @@ use borrow.Author.Tests.{lt-ltb, eq-eqb, ltb-true, eqb-true}
 use lib.Dec.{ltb, eqb}
 use Rattle.text.proofs.Bools.{both}
 use Rattle.table.specs.Table.{records, cell, kin, below, named, firstOf, firstNamed, kinNamed, found}
-use Rattle.table.specs.Links.{joins}
 use Rattle.table.specs.Refusals.{firstFrom}
 
 module _ (t : List ℕ) (k : ℕ) where
   pub record Kin (i j : ℕ) : Type 0 where
-    pub kind : eqb (cell t j 0) k ≡ true
+    pub kind : cell t j 0 ≡ k
     pub parent : cell t j 1 ≡ i
     pub earlier : i < j
 
@@ -24,20 +23,11 @@ module _ (t : List ℕ) (k : ℕ) where
   kin-parts i j e =
       let b = both (eqb (cell t j 0) k) (eqb (cell t j 1) i && ltb i j) e in
       let b′ = both (eqb (cell t j 1) i) (ltb i j) (b .1) in
-      record { kind = b .0; parent = eqb-true _ _ (b′ .0); earlier = ltb-true _ _ (b′ .1) }
+      record { kind = eqb-true _ _ (b .0); parent = eqb-true _ _ (b′ .0); earlier = ltb-true _ _ (b′ .1) }
 
-  -- a record under some parent joins the links, and one that joins is under its parent
-  pub kin-joins : (i j : ℕ) → kin t k i j ≡ true → joins t k j ≡ true
-  unfolding joins
-  kin-joins i j e = let p = kin-parts i j e in rw (p .kind) (lt-ltb (cell t j 1) j (omega (arith, p .parent, p .earlier)))
-
-  pub joins-earlier : (j : ℕ) → joins t k j ≡ true → cell t j 1 < j
-  unfolding joins
-  joins-earlier j e = ltb-true _ _ (both (eqb (cell t j 0) k) (ltb (cell t j 1) j) e .1)
-
-  pub joins-kin : (j : ℕ) → joins t k j ≡ true → kin t k (cell t j 1) j ≡ true
-  unfolding kin joins
-  joins-kin j e = let b = both (eqb (cell t j 0) k) (ltb (cell t j 1) j) e in simp (b .0, b .1, eq-eqb (cell t j 1) (cell t j 1) refl)
+  pub kin-is : (i j : ℕ) → Kin i j → kin t k i j ≡ true
+  unfolding kin
+  kin-is i j p = rw (eq-eqb _ _ (p .kind), eq-eqb _ _ (p .parent)) (lt-ltb i j (p .earlier))
 
   -- those under i among the m records from j on
   unfoldable pub from : ℕ → ℕ → ℕ → List ℕ
@@ -52,6 +42,14 @@ module _ (t : List ℕ) (k : ℕ) where
       go : (b : Bool) → (below t k i j ++ cond b (j ∷ []) []) ++ from i (suc j) m ≡ below t k i j ++ cond b (j ∷ from i (suc j) m) (from i (suc j) m)
       go true = append-assoc (below t k i j) (j ∷ []) (from i (suc j) m)
       go false = simp append-nil
+
+-- a record that is under none as another is
+pub not-kin : (t : List ℕ) (k i j : ℕ) → (Kin t k i j → ⊥) → kin t k i j ≡ false
+not-kin t k i j f = go (kin t k i j) refl
+  where
+    go : (b : Bool) → kin t k i j ≡ b → b ≡ false
+    go true e = absurd (f (kin-parts t k i j e))
+    go false e = refl
 
 -- the first of a name, as a search over all records
 module _ (t x : List ℕ) (k i : ℕ) (w : List ℕ) where
@@ -75,7 +73,3 @@ module _ (t x : List ℕ) (k i : ℕ) (w : List ℕ) where
   unfolding kinNamed
   found-hit zero o e b q f = absurd (omega (arith, kin-parts t k i 0 (both (kin t k i 0) (named t x w 0) (sym q ∙ f) .0) .earlier))
   found-hit (suc j) o e b q f = e
-
--- the parent p of a record that joins, in the code's terms
-pub parent-earlier : (t : List ℕ) (k j p : ℕ) (b : Bool) → p ≡ cell t j 1 → b ≡ joins t k j → b ≡ true → p < j
-parent-earlier t k j p b e q f = omega (arith, joins-earlier t k j (sym q ∙ f))

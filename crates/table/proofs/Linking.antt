@@ -1,210 +1,202 @@
 -- The links spell the children and the attributes.
 use mathlib.Core.Path.{_≡_, refl, sym, ap, _∙_, fun-ext}
 use mathlib.Core.Logic.{_≢_}
-use mathlib.Core.Bool.{Bool, true, false, cond, _&&_, true≢false}
+use mathlib.Core.Bool.{Bool, true, false, cond, _&&_, _||_, true≢false}
 use mathlib.Core.List.{List, [], _∷_}
-use Prim.Native.Nat.{ℕ, zero, suc, _+_, _≤_, _<_}
+use Prim.Native.Nat.{ℕ, zero, suc, _+_, _*_, _-_, _/_, _≤_, _<_}
 use native.Mathlib.Omega.{arith}
-use native.Mathlib.Decide.{ℕ-discrete}
-use borrow.Author.Tests.{ne-eqb, eqb-true, leb-true}
+use native.Mathlib.Decide.{ℕ-discrete, decLt}
+use borrow.Author.Tests.{ne-eqb, eq-eqb, eqb-true, lt-ltb, ltb-true, le-leb, leb-true}
 use lib.Dec.{ltb, leb, eqb}
-use lib.ListN.{length, getD, set, length-set}
+use lib.ListN.{length, getD, set, replicate, length-set, length-replicate, getD-replicate, List·getD-eq-default}
 use lib.Seq.{getD-set-same, getD-set-other}
 use Rattle.text.proofs.Bools.{both}
 use Rattle.table.specs.Table.{records, cell, kin, below, kids, attrs}
-use Rattle.table.specs.Links.{chain, linked, joins, firstAfter, nextAfter, Arrays, linkOne, linkBelow, roomy, linkAll, Blank}
-use Rattle.table.proofs.Kin.{kin-parts, kin-joins, joins-earlier, joins-kin, from, below-from}
+use Rattle.table.specs.Links.{link, chain, linked, inFront, joins, linkOne, linkBelow, roomy, linkAll, Blank}
+use Rattle.table.proofs.Kin.{Kin, kin-parts, kin-is, not-kin, from, below-from}
+
+-- a record that joins
+pub record Joined (kind p j : ℕ) : Type 0 where
+  pub some-kind : 1 ≤ kind
+  pub known-kind : kind ≤ 2
+  pub earlier : p < j
+
+pub joined : (kind p j : ℕ) (b : Bool) → b ≡ joins kind p j → b ≡ true → Joined kind p j
+unfolding joins
+joined kind p j b q f = go (eqb kind 1) (eqb kind 2) refl refl (sym q ∙ f)
+  where
+    go : (u v : Bool) → eqb kind 1 ≡ u → eqb kind 2 ≡ v → ((u || v) && ltb p j) ≡ true → Joined kind p j
+    go true v d e h = let k = eqb-true kind 1 d in record { some-kind = omega arith; known-kind = omega arith; earlier = ltb-true p j h }
+    go false true d e h = let k = eqb-true kind 2 e in record { some-kind = omega arith; known-kind = omega arith; earlier = ltb-true p j h }
+    go false false d e h = absurd (true≢false (sym h))
+
+joins-is : (kind p j : ℕ) → 1 ≤ kind → kind ≤ 2 → p < j → joins kind p j ≡ true
+unfolding joins
+joins-is kind p j h h′ l = elim (ℕ-discrete kind 1) [ yes e ↦ rw (eq-eqb kind 1 e) (lt-ltb p j l) | no e ↦ rw (ne-eqb kind 1 e, eq-eqb kind 2 (omega arith)) (lt-ltb p j l) ]
 
 abbrev head : List ℕ → ℕ
 head [] = 0
 head (c ∷ l) = c
 
-module _ (t : List ℕ) (k : ℕ) where
-  -- what two arrays hold once the m records from j on are linked
-  record Linked (j m : ℕ) (first next : List ℕ) : Type 0 where
-    first-long : j + m ≤ length first
-    next-long : j + m ≤ length next
-    first-is : (i : ℕ) → getD first i 0 ≡ head (from t k i j m)
-    next-is : (i c e : ℕ) → j ≤ c → suc c + e ≡ j + m → kin t k i c ≡ true → getD next c 0 ≡ head (from t k i (suc c) e)
+-- the links after a record went in front
+module _ (l : List ℕ) (q p j : ℕ) (b : q < 2) (m : j * 3 + 2 < length l) where
+  front-length : length (inFront l q p j) ≡ length l
+  unfolding inFront
+  front-length = length-set (set l (j * 3 + 2) (link l p q)) (p * 3 + q) j ∙ length-set l (j * 3 + 2) (link l p q)
 
-  module _ (first next : List ℕ) (n : ℕ) (l : Linked 0 n first next) where
+  front-at : p < j → link (inFront l q p j) p q ≡ j
+  unfolding inFront link
+  front-at h = getD-set-same (set l (j * 3 + 2) (link l p q)) (p * 3 + q) j 0 (omega (arith, length-set l (j * 3 + 2) (link l p q)))
+
+  front-next : link (inFront l q p j) j 2 ≡ link l p q
+  unfolding inFront link
+  front-next =
+      getD-set-other (set l (j * 3 + 2) (link l p q)) (p * 3 + q) (j * 3 + 2) j 0 (λ e. absurd (omega arith)) ∙
+      getD-set-same l (j * 3 + 2) (link l p q) 0 m
+
+  -- every other link stays
+  front-other : (i k : ℕ) → i * 3 + k ≢ p * 3 + q → i * 3 + k ≢ j * 3 + 2 → link (inFront l q p j) i k ≡ link l i k
+  unfolding inFront link
+  front-other i k u v = getD-set-other (set l (j * 3 + 2) (link l p q)) (p * 3 + q) (i * 3 + k) j 0 u ∙ getD-set-other l (j * 3 + 2) (i * 3 + k) (link l p q) 0 v
+
+-- the kind s + 1, whose first is number s of a parent's links
+module _ (t : List ℕ) (s : ℕ) (b : s < 2) where
+  -- what the links hold once the m records from j on are linked
+  record Linked (j m : ℕ) (l : List ℕ) : Type 0 where
+    long : (j + m) * 3 ≤ length l
+    first-is : (i : ℕ) → link l i s ≡ head (from t (suc s) i j m)
+    next-is : (i c e : ℕ) → j ≤ c → suc c + e ≡ j + m → kin t (suc s) i c ≡ true → link l c 2 ≡ head (from t (suc s) i (suc c) e)
+
+  module _ (l : List ℕ) (n : ℕ) (d : Linked 0 n l) where
     -- from any place on, the links spell the rest of the list
-    chain-from : (i f j m : ℕ) → j + m ≡ n → m ≤ f → chain next f (head (from t k i j m)) ≡ from t k i j m
+    chain-from : (i f j m : ℕ) → j + m ≡ n → m ≤ f → chain l f (head (from t (suc s) i j m)) ≡ from t (suc s) i j m
     unfolding chain from
     chain-from i zero j zero e h = refl
     chain-from i (suc f) j zero e h = refl
     chain-from i zero j (suc m) e h = absurd (omega arith)
     chain-from i (suc f) j (suc m) e h =
-        go (kin t k i j) refl (chain-from i f (suc j) m (omega arith) (omega arith)) (chain-from i (suc f) (suc j) m (omega arith) (omega arith))
+        go (kin t (suc s) i j) refl (chain-from i f (suc j) m (omega arith) (omega arith)) (chain-from i (suc f) (suc j) m (omega arith) (omega arith))
       where
         rest : List ℕ
-        rest = from t k i (suc j) m
+        rest = from t (suc s) i (suc j) m
 
-        go : (b : Bool) → kin t k i j ≡ b → chain next f (head rest) ≡ rest → chain next (suc f) (head rest) ≡ rest → chain next (suc f) (head (cond b (j ∷ rest) rest)) ≡ cond b (j ∷ rest) rest
-        go true b u v = rw (ne-eqb j 0 (λ z. absurd (omega (arith, kin-parts t k i j b .earlier))), l .next-is i j m (omega arith) (omega arith) b, u)
+        go : (b : Bool) → kin t (suc s) i j ≡ b → chain l f (head rest) ≡ rest → chain l (suc f) (head rest) ≡ rest → chain l (suc f) (head (cond b (j ∷ rest) rest)) ≡ cond b (j ∷ rest) rest
+        go true b u v = rw (ne-eqb j 0 (λ z. absurd (omega (arith, kin-parts t (suc s) i j b .earlier))), d .next-is i j m (omega arith) (omega arith) b, u)
         go false b u v = v
 
-    linked-below : (i : ℕ) → linked first next i ≡ below t k i n
+    linked-below : (i : ℕ) → linked l s i ≡ below t (suc s) i n
     unfolding linked below
     linked-below i =
-        rw (l .first-is i) (chain-from i (length next) 0 n (omega arith) (omega (arith, l .next-long)) ∙ sym (below-from t k i 0 n) ∙ ap (below t k i) {x = 0 + n} {y = n} (omega arith))
+        rw (d .first-is i) (chain-from i (length l / 3) 0 n (omega arith) (omega (arith, d .long)) ∙ sym (below-from t (suc s) i 0 n) ∙ ap (below t (suc s) i) {x = 0 + n} {y = n} (omega arith))
 
   -- nothing is linked yet
-  link-none : (j : ℕ) (first next : List ℕ) → j ≤ length first → j ≤ length next → Blank first → Linked j 0 first next
-  unfolding from
-  link-none j first next u v z = record { first-long = omega arith; next-long = omega arith; first-is = z .none-yet; next-is = λ i c e h g b. absurd (omega arith) }
+  link-none : (j : ℕ) (l : List ℕ) → j * 3 ≤ length l → Blank l → Linked j 0 l
+  unfolding from link
+  link-none j l u z = record { long = omega arith; first-is = λ i. z .none-yet (i * 3 + s); next-is = λ i c e h g b. absurd (omega arith) }
 
-  -- record j is put in front
-  module _ (j m : ℕ) (first next : List ℕ) (l : Linked (suc j) m first next) where
-    not-kin : joins t k j ≡ false → (i : ℕ) → kin t k i j ≡ false
-    not-kin e i = go (kin t k i j) refl
-      where
-        go : (b : Bool) → kin t k i j ≡ b → b ≡ false
-        go true b = sym (kin-joins t k i j b) ∙ e
-        go false b = refl
-
-    push-no : joins t k j ≡ false → Linked j (suc m) first next
+  module _ (j m : ℕ) (l : List ℕ) (d : Linked (suc j) m l) where
+    -- record j is not of this kind, or joins nothing
+    pass : (l′ : List ℕ) → ((i : ℕ) → kin t (suc s) i j ≡ false) → length l′ ≡ length l → ((i : ℕ) → link l′ i s ≡ link l i s) → ((c : ℕ) → c ≢ j → link l′ c 2 ≡ link l c 2) → Linked j (suc m) l′
     unfolding from
-    push-no e = record {
-      first-long = omega (arith, l .first-long);
-      next-long = omega (arith, l .next-long);
-      first-is = λ i. rw (not-kin e i) (l .first-is i);
-      next-is = λ i c f u v b. elim (ℕ-discrete c j) [ yes q ↦ absurd (true≢false (sym (rw q at b) ∙ not-kin e i)) | no q ↦ l .next-is i c f (omega arith) (omega arith) b ];
+    pass l′ n e f g = record {
+      long = omega (arith, d .long);
+      first-is = λ i. rw (n i) (f i ∙ d .first-is i);
+      next-is = λ i c x u v b. elim (ℕ-discrete c j) [ yes q ↦ absurd (true≢false (sym (rw q at b) ∙ n i)) | no q ↦ g c q ∙ d .next-is i c x (omega arith) (omega arith) b ];
     }
 
-    push-yes : joins t k j ≡ true → Linked j (suc m) (set first (cell t j 1) j) (set next j (getD first (cell t j 1) 0))
+    -- record j is of this kind and goes in front
+    goes : cell t j 0 ≡ suc s → cell t j 1 < j → Linked j (suc m) (inFront l s (cell t j 1) j)
     unfolding from
-    push-yes e = record {
-      first-long = omega (arith, length-set first p j, l .first-long);
-      next-long = omega (arith, length-set next j (getD first p 0), l .next-long);
+    goes k p<j = record {
+      long = omega (arith, front-length l s p j b room, d .long);
       first-is = λ i. elim (ℕ-discrete i p) [ yes q ↦ mine i q | no q ↦ other i q ];
-      next-is = λ i c f u v b. elim (ℕ-discrete c j) [ yes q ↦ front i c f q v b | no q ↦ getD-set-other next j c _ 0 q ∙ l .next-is i c f (omega arith) (omega arith) b ];
+      next-is = λ i c x u v y. elim (ℕ-discrete c j) [ yes q ↦ front i c x q v y | no q ↦ front-other l s p j b room c 2 (λ e. absurd (omega arith)) (λ e. absurd (q (omega (arith, e)))) ∙ d .next-is i c x (omega arith) (omega arith) y ];
     }
       where
         p : ℕ
         p = cell t j 1
 
-        p<j : p < j
-        p<j = joins-earlier t k j e
+        room : j * 3 + 2 < length l
+        room = omega (arith, d .long)
 
-        mine : (i : ℕ) → i ≡ p → getD (set first p j) i 0 ≡ head (cond (kin t k i j) (j ∷ from t k i (suc j) m) (from t k i (suc j) m))
-        mine i q = rw (q, joins-kin t k j e) (getD-set-same first p j 0 (omega (arith, l .first-long, p<j)))
+        mine : (i : ℕ) → i ≡ p → link (inFront l s p j) i s ≡ head (cond (kin t (suc s) i j) (j ∷ from t (suc s) i (suc j) m) (from t (suc s) i (suc j) m))
+        mine i q = rw (q, kin-is t (suc s) p j (record { kind = k; parent = refl; earlier = p<j })) (front-at l s p j b room p<j)
 
-        other : (i : ℕ) → i ≢ p → getD (set first p j) i 0 ≡ head (cond (kin t k i j) (j ∷ from t k i (suc j) m) (from t k i (suc j) m))
-        other i q = getD-set-other first p i j 0 q ∙ go (kin t k i j) refl
+        other : (i : ℕ) → i ≢ p → link (inFront l s p j) i s ≡ head (cond (kin t (suc s) i j) (j ∷ from t (suc s) i (suc j) m) (from t (suc s) i (suc j) m))
+        other i q =
+            front-other l s p j b room i s (λ e. absurd (q (omega (arith, e)))) (λ e. absurd (omega arith)) ∙ rw (not-kin t (suc s) i j (λ y. q (sym (y .parent)))) (d .first-is i)
+
+        front : (i c x : ℕ) → c ≡ j → suc c + x ≡ j + suc m → kin t (suc s) i c ≡ true → link (inFront l s p j) c 2 ≡ head (from t (suc s) i (suc c) x)
+        front i c x q v y =
+            ap (λ (c : ℕ). link (inFront l s p j) c 2) q ∙ front-next l s p j b room ∙ d .first-is p ∙
+            ap (λ (c : ℕ). head (from t (suc s) p (suc c) m)) (sym q) ∙ ap (λ (x : ℕ). head (from t (suc s) p (suc c) x)) {x = m} {y = x} (omega arith) ∙
+            ap (λ (y : ℕ). head (from t (suc s) y (suc c) x)) (kin-parts t (suc s) i j (rw q at y) .parent)
+
+    one-more : Linked j (suc m) (linkOne t j l)
+    unfolding linkOne
+    one-more = go (joins (cell t j 0) (cell t j 1) j) refl
+      where
+        p : ℕ
+        p = cell t j 1
+
+        in-front : (q : ℕ) → cell t j 0 ≡ suc q → q < 2 → p < j → Linked j (suc m) (inFront l q p j)
+        in-front q k h p<j =
+            elim (ℕ-discrete q s) [
+              | yes e ↦ rw e (goes (k ∙ ap suc e) p<j)
+              | no e ↦
+                  pass (inFront l q p j) (λ i. not-kin t (suc s) i j (λ y. e (omega (arith, y .kind)))) (front-length l q p j h room)
+                  (λ i. front-other l q p j h room i s (λ z. absurd (omega arith)) (λ z. absurd (omega arith)))
+                  (λ c x. front-other l q p j h room c 2 (λ z. absurd (omega arith)) (λ z. absurd (x (omega (arith, z)))))
+            ]
           where
-            go : (b : Bool) → kin t k i j ≡ b → getD first i 0 ≡ head (cond b (j ∷ from t k i (suc j) m) (from t k i (suc j) m))
-            go true b = absurd (q (sym (kin-parts t k i j b .parent)))
-            go false b = l .first-is i
+            room : j * 3 + 2 < length l
+            room = omega (arith, d .long)
 
-        front : (i c f : ℕ) → c ≡ j → suc c + f ≡ j + suc m → kin t k i c ≡ true → getD (set next j (getD first p 0)) c 0 ≡ head (from t k i (suc c) f)
-        front i c f q v b =
-            ap (λ (c : ℕ). getD (set next j (getD first p 0)) c 0) q ∙ getD-set-same next j (getD first p 0) 0 (omega (arith, l .next-long)) ∙ l .first-is p ∙
-            ap (λ (c : ℕ). head (from t k p (suc c) m)) (sym q) ∙ ap (λ (f : ℕ). head (from t k p (suc c) f)) {x = m} {y = f} (omega arith) ∙
-            ap (λ (x : ℕ). head (from t k x (suc c) f)) (kin-parts t k i j (rw q at b) .parent)
+        go : (b : Bool) → joins (cell t j 0) p j ≡ b → Linked j (suc m) (cond b (inFront l (cell t j 0 - 1) p j) l)
+        go true e = let y = joined (cell t j 0) p j true (sym e) refl in in-front (cell t j 0 - 1) (omega (arith, y .some-kind)) (omega (arith, y .known-kind)) (y .earlier)
+        go false e =
+            pass l (λ i. not-kin t (suc s) i j (λ y. absurd (true≢false (sym (joins-is (cell t j 0) p j (omega (arith, y .kind)) (omega (arith, y .kind)) (omega (arith, y .parent, y .earlier))) ∙ e)))) refl (λ i. refl)
+            (λ c x. refl)
 
-    push-one : Linked j (suc m) (firstAfter t k j first) (nextAfter t k j first next)
-    unfolding firstAfter nextAfter
-    push-one = go (joins t k j) refl
-      where
-        go : (b : Bool) → joins t k j ≡ b → Linked j (suc m) (cond b (set first (cell t j 1) j) first) (cond b (set next j (getD first (cell t j 1) 0)) next)
-        go true e = push-yes e
-        go false e = push-no e
-
-  -- of the nexts only the places of the records that join matter
-  frame : (j m : ℕ) (first next next′ : List ℕ) → Linked j m first next → length next′ ≡ length next → ((c : ℕ) → j ≤ c → joins t k c ≡ true → getD next′ c 0 ≡ getD next c 0) → Linked j m first next′
-  frame j m first next next′ l e f = record {
-    first-long = l .first-long;
-    next-long = omega (arith, l .next-long);
-    first-is = l .first-is;
-    next-is = λ i c d u v b. f c u (kin-joins t k i c b) ∙ l .next-is i c d u v b;
-  }
-
--- what putting a record in front does to the nexts
-module _ (t : List ℕ) (k j : ℕ) (first next : List ℕ) where
-  after-length : length (nextAfter t k j first next) ≡ length next
-  unfolding nextAfter
-  after-length = go (joins t k j)
-    where
-      go : (b : Bool) → length (cond b (set next j (getD first (cell t j 1) 0)) next) ≡ length next
-      go true = length-set next j (getD first (cell t j 1) 0)
-      go false = refl
-
-  after-other : (c : ℕ) → c ≢ j → getD (nextAfter t k j first next) c 0 ≡ getD next c 0
-  unfolding nextAfter
-  after-other c h = go (joins t k j)
-    where
-      go : (b : Bool) → getD (cond b (set next j (getD first (cell t j 1) 0)) next) c 0 ≡ getD next c 0
-      go true = getD-set-other next j c (getD first (cell t j 1) 0) 0 h
-      go false = refl
-
-  after-not : joins t k j ≡ false → nextAfter t k j first next ≡ next
-  unfolding nextAfter
-  after-not e = rw e
-
--- no record is an element and an attribute
-one-kind : (t : List ℕ) (j : ℕ) → joins t 1 j ≡ true → joins t 2 j ≡ false
-unfolding joins
-one-kind t j e = rw (eqb-true (cell t j 0) 1 (both (eqb (cell t j 0) 1) (ltb (cell t j 1) j) e .0))
-
--- both kinds are linked from j on
-module _ (t : List ℕ) where
-  record Both (j m : ℕ) (a : Arrays) : Type 0 where
-    children : Linked t 1 j m (a .first) (a .next)
-    attributes : Linked t 2 j m (a .attr) (a .next)
-
-  both-one : (j m : ℕ) (a : Arrays) → Both (suc j) m a → Both j (suc m) (linkOne t j a)
-  unfolding linkOne
-  both-one j m a l = record {
-    children = frame t 1 j (suc m) (firstAfter t 1 j (a .first)) mid (nextAfter t 2 j (a .attr) mid) (push-one t 1 j m (a .first) (a .next) (l .children)) (after-length t 2 j (a .attr) mid) keep;
-    attributes =
-        push-one t 2 j m (a .attr) mid
-        (frame t 2 (suc j) m (a .attr) (a .next) mid (l .attributes) (after-length t 1 j (a .first) (a .next)) (λ c u o. after-other t 1 j (a .first) (a .next) c (λ e. absurd (omega arith))));
-  }
-    where
-      mid : List ℕ
-      mid = nextAfter t 1 j (a .first) (a .next)
-
-      keep : (c : ℕ) → j ≤ c → joins t 1 c ≡ true → getD (nextAfter t 2 j (a .attr) mid) c 0 ≡ getD mid c 0
-      keep c u o =
-          elim (ℕ-discrete c j) [
-            | yes e ↦ ap (λ (x : List ℕ). getD x c 0) (after-not t 2 j (a .attr) mid (one-kind t j (rw e at o)))
-            | no e ↦ after-other t 2 j (a .attr) mid c e
-          ]
-
-  both-below : (j m : ℕ) (a : Arrays) → Both j m a → Both 0 (j + m) (linkBelow t j a)
+  -- all records below j
+  all-below : (j m : ℕ) (l : List ℕ) → Linked j m l → Linked 0 (j + m) (linkBelow t j l)
   unfolding linkBelow
-  both-below zero m a l = moved (omega arith) l
+  all-below zero m l d = moved (omega arith) d
     where
-      moved : {m′ : ℕ} → m ≡ m′ → Both 0 m a → Both 0 m′ a
-      moved e l = rw e at l
-  both-below (suc j) m a l = moved (omega arith) (both-below j (suc m) (linkOne t j a) (both-one j m a l))
+      moved : {m′ : ℕ} → m ≡ m′ → Linked 0 m l → Linked 0 m′ l
+      moved e d = rw e at d
+  all-below (suc j) m l d = moved (omega arith) (all-below j (suc m) (linkOne t j l) (one-more j m l d))
     where
-      moved : {m′ : ℕ} → j + suc m ≡ m′ → Both 0 (j + suc m) (linkBelow t j (linkOne t j a)) → Both 0 m′ (linkBelow t j (linkOne t j a))
-      moved e l = rw e at l
+      moved : {m′ : ℕ} → j + suc m ≡ m′ → Linked 0 (j + suc m) (linkBelow t j (linkOne t j l)) → Linked 0 m′ (linkBelow t j (linkOne t j l))
+      moved e d = rw e at d
 
-  -- arrays lent with zeros and room
-  module _ (a : Arrays) (r : roomy t a ≡ true) (f : Blank (a .first)) (g : Blank (a .attr)) where
-    all-linked : Both 0 (records t) (linkAll t a)
-    unfolding linkAll roomy
-    all-linked =
-        let n = records t in
-        let b₁ = both (leb n (length (a .first))) (leb n (length (a .attr)) && (leb n (length (a .next)) && leb n 65536)) r in
-        let b₂ = both (leb n (length (a .attr))) (leb n (length (a .next)) && leb n 65536) (b₁ .1) in
-        let b₃ = both (leb n (length (a .next))) (leb n 65536) (b₂ .1) in
-        let h₁ = leb-true n (length (a .first)) (b₁ .0) in
-        let h₂ = leb-true n (length (a .attr)) (b₂ .0) in
-        let h₃ = leb-true n (length (a .next)) (b₃ .0) in
-        rw r (moved (omega arith) (both-below n 0 a (record { children = link-none t 1 n (a .first) (a .next) h₁ h₃ f; attributes = link-none t 2 n (a .attr) (a .next) h₂ h₃ g })))
-      where
-        moved : {m m′ : ℕ} → m ≡ m′ → Both 0 m (linkBelow t (records t) a) → Both 0 m′ (linkBelow t (records t) a)
-        moved e l = rw e at l
+  -- an array lent with zeros and room
+  linked-all : (l : List ℕ) → roomy t l ≡ true → Blank l → (i : ℕ) → linked (linkAll t l) s i ≡ below t (suc s) i (records t)
+  unfolding linkAll roomy
+  linked-all l r z i =
+      rw r (linked-below (linkBelow t n l) n (moved (omega arith) (all-below n 0 l (link-none n l (leb-true (n * 3) (length l) (both (leb (n * 3) (length l)) (leb n 65536) r .0)) z))) i)
+    where
+      n : ℕ
+      n = records t
 
-    -- the links of every record spell its children, and its attributes: no table is excepted
-    pub linked-kids : linked (linkAll t a .first) (linkAll t a .next) ≡ kids t
-    unfolding kids
-    linked-kids = fun-ext (linked-below t 1 (linkAll t a .first) (linkAll t a .next) (records t) (all-linked .children))
+      moved : {m m′ : ℕ} → m ≡ m′ → Linked 0 m (linkBelow t n l) → Linked 0 m′ (linkBelow t n l)
+      moved e d = rw e at d
 
-    pub linked-attrs : linked (linkAll t a .attr) (linkAll t a .next) ≡ attrs t
-    unfolding attrs
-    linked-attrs = fun-ext (linked-below t 2 (linkAll t a .attr) (linkAll t a .next) (records t) (all-linked .attributes))
+-- the links of every record spell its children, and its attributes: no table is excepted
+module _ (t l : List ℕ) (r : roomy t l ≡ true) (z : Blank l) where
+  pub linked-kids : linked (linkAll t l) 0 ≡ kids t
+  unfolding kids
+  linked-kids = fun-ext (linked-all t 0 (omega arith) l r z)
+
+  pub linked-attrs : linked (linkAll t l) 1 ≡ attrs t
+  unfolding attrs
+  linked-attrs = fun-ext (linked-all t 1 (omega arith) l r z)
+
+-- room, in numbers
+pub roomy-is : (t l : List ℕ) → records t * 3 ≤ length l → records t ≤ 65536 → roomy t l ≡ true
+unfolding roomy
+roomy-is t l h h′ = rw (le-leb (records t * 3) (length l) h) (le-leb (records t) 65536 h′)
+
+-- an array of zeros
+pub blank-zeros : (n : ℕ) → Blank (replicate n 0)
+blank-zeros n = record { none-yet = λ i. elim (decLt i n) [ yes h ↦ getD-replicate n i 0 0 h | no h ↦ List·getD-eq-default (replicate n 0) 0 (omega (arith, length-replicate {A = ℕ} n 0)) ] }

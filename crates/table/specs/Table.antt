@@ -5,7 +5,7 @@ use mathlib.Core.Option.{Option, none, some}
 use Prim.Native.Nat.{ℕ, zero, suc, _+_, _*_, _/_}
 use lib.Dec.{ltb, eqb}
 use lib.ListN.{length, getD}
-use Rattle.text.specs.Span.{partOf}
+use Rattle.text.specs.Span.{clipped}
 use Rattle.text.specs.Order.{equal}
 
 -- the number of whole records
@@ -18,11 +18,11 @@ cell t r k = getD t (r * 6 + k) 0
 
 -- a record's name
 unfoldable pub nameOf : List ℕ → List ℕ → ℕ → List ℕ
-nameOf t x r = partOf x (cell t r 2) (cell t r 3)
+nameOf t x r = clipped x (cell t r 2) (cell t r 3)
 
 -- its text: an element's direct text joined, or an attribute's value; length 0 is no text
 unfoldable pub textOf : List ℕ → List ℕ → ℕ → List ℕ
-textOf t x r = partOf x (cell t r 4) (cell t r 5)
+textOf t x r = clipped x (cell t r 4) (cell t r 5)
 
 -- a record has this name
 unfoldable pub named : List ℕ → List ℕ → List ℕ → ℕ → Bool

@@ -73,7 +73,7 @@ pub fn name<'a, 'b>(table: &'b [u32], text: &'a [u8], r: usize) -> &'a [u8]
 {
     let start = field_at(table, r, Field::NameStart);
     let len = field_at(table, r, Field::NameLength);
-    text::part(text, start, len)
+    text::clip(text, start, len)
 }
 
 // The text of record r: an attribute's value, or all direct text of an element, joined.
@@ -82,7 +82,7 @@ pub fn joined_text<'a, 'b>(table: &'b [u32], text: &'a [u8], r: usize) -> &'a [u
 {
     let start = field_at(table, r, Field::TextStart);
     let len = field_at(table, r, Field::TextLength);
-    text::part(text, start, len)
+    text::clip(text, start, len)
 }
 
 // Whether record r has this name.
@@ -117,8 +117,8 @@ fn is_kin_named(table: &[u32], text: &[u8], kind: u32, i: usize, want: &[u8], j:
 }
 
 // The first child (kind 1) or attribute (kind 2) of a name under record i, and 0 where there is
-// none: record 0 is under no other. All records are looked at; `first_linked` looks at those under
-// i only.
+// none: record 0 is under no other. All records are looked at; `first_child` and `attribute` look
+// at those under i only.
 pub fn find(table: &[u32], text: &[u8], kind: u32, i: usize, want: &[u8]) -> usize
     ensures { λ r. ⌜ found r ≡ firstNamed (now (table .entry)) (now (text .entry)) kind i (now (want .entry)) ⌝ }
 {

@@ -26,19 +26,32 @@ fn print_verdict(v: Verdict) {
     }
 }
 
-// The records that the links spell for record i, after a mark.
-fn print_linked(first: &[u16], next: &[u16], i: usize, mark: &[u8]) {
-    let mut c = table::link_at(first, i);
-    if c == 0 {
+fn wide(x: u16) -> usize {
+    x as usize
+}
+
+// The first attribute of record i.
+fn first_attribute(links: &[u16], i: usize) -> usize {
+    if i < links.len() / 3 {
+        wide(links[i * 3 + 1])
+    } else {
+        0
+    }
+}
+
+// The records that the links of record i spell from `first` on, after a mark.
+fn print_linked(links: &[u16], i: usize, first: usize, mark: &[u8]) {
+    if first == 0 {
         return;
     }
     print(b" ");
     print_number(i);
     print(mark);
-    print_number(c);
-    let mut left = next.len();
+    print_number(first);
+    let mut c = first;
+    let mut left = links.len() / 3;
     while 0 < left {
-        c = table::link_at(next, c);
+        c = table::next_of(links, c);
         if c == 0 {
             return;
         }
@@ -49,18 +62,26 @@ fn print_linked(first: &[u16], next: &[u16], i: usize, mark: &[u8]) {
 }
 
 // Children and attributes of the first n records.
-fn print_links(n: usize, first: &[u16], attr: &[u16], next: &[u16]) {
+fn print_links(n: usize, links: &[u16]) {
     let mut i = 0;
     while i < n {
-        print_linked(first, next, i, b">");
-        print_linked(attr, next, i, b"@");
+        print_linked(links, i, table::first_of(links, i), b">");
+        print_linked(links, i, first_attribute(links, i), b"@");
         i += 1;
     }
 }
 
-// The first record of the kind and name of record j under its parent, by looking at all records.
-// Where the links find another, an exclamation mark follows.
-fn print_found(table: &[u32], text: &[u8], j: usize, links: &[u16], next: &[u16], kind: u32) {
+// An exclamation mark where the links find another record.
+fn print_other(found: usize, linked: usize) {
+    if found != linked {
+        print(b"!");
+    }
+}
+
+// The first record of the kind and name of record j under its parent, by looking at all records, and
+// a mark where the links find another.
+fn print_found(table: &[u32], text: &[u8], j: usize, links: &[u16]) {
+    let kind = table::field_of(table, j, Field::Kind);
     let parent = table::field_of(table, j, Field::Parent) as usize;
     let name = table::name(table, text, j);
     let k = table::find(table, text, kind, parent, name);
@@ -68,24 +89,18 @@ fn print_found(table: &[u32], text: &[u8], j: usize, links: &[u16], next: &[u16]
     print_number(j);
     print(b"=");
     print_number(k);
-    if links.len() == 0 {
-        return;
-    }
-    if table::first_linked(table, text, links, next, parent, name) != k {
-        print(b"!");
+    match kind {
+        1 => print_other(k, table::first_child(table, text, links, parent, name)),
+        2 => print_other(k, table::attribute(table, text, links, parent, name)),
+        _ => {}
     }
 }
 
 // The same for each later record of the first n.
-fn print_lookups(table: &[u32], text: &[u8], n: usize, first: &[u16], attr: &[u16], next: &[u16]) {
+fn print_lookups(table: &[u32], text: &[u8], n: usize, links: &[u16]) {
     let mut j = 1;
     while j < n {
-        let kind = table::field_of(table, j, Field::Kind);
-        match kind {
-            1 => print_found(table, text, j, first, next, kind),
-            2 => print_found(table, text, j, attr, next, kind),
-            _ => print_found(table, text, j, &next[0..0], next, kind),
-        }
+        print_found(table, text, j, links);
         j += 1;
     }
 }
@@ -93,12 +108,10 @@ fn print_lookups(table: &[u32], text: &[u8], n: usize, first: &[u16], attr: &[u1
 // The answer for a table and its text.
 pub(crate) fn print_answer(table: &[u32], text: &[u8]) {
     print_verdict(table::check(table, text));
-    let mut first = [0u16; 4096];
-    let mut attr = [0u16; 4096];
-    let mut next = [0u16; 4096];
-    table::link(table, &mut first, &mut attr, &mut next);
+    let mut links = [0u16; 12288];
+    table::link(table, &mut links);
     let count = table::count(table);
     let n = if count < SHOWN { count } else { SHOWN };
-    print_links(n, &first, &attr, &next);
-    print_lookups(table, text, n, &first, &attr, &next);
+    print_links(n, &links);
+    print_lookups(table, text, n, &links);
 }

@@ -1,11 +1,12 @@
--- Laws of the part of a text at a start and a length.
-use mathlib.Core.Path.{_≡_}
+-- Laws of the bytes of a text at a start and a length.
+use mathlib.Core.Path.{_≡_, sym, _∙_}
 use mathlib.Core.List.{List, []}
 use Prim.Native.Nat.{ℕ, _+_, _-_, _≤_, _<_}
 use native.Mathlib.Omega.{arith}
 use borrow.Author.Tests.{le-leb, lt-leb}
-use lib.ListN.{length, take, drop}
-use Rattle.text.specs.Span.{partOf}
+use lib.ListN.{length, take, drop, length-drop, drop-of-length-le}
+use lib.Seq.{take-all, take-nil}
+use Rattle.text.specs.Span.{partOf, clipped}
 
 module _ (s : List ℕ) (start len : ℕ) where
   pub part-far : length s < start → [] ≡ partOf s start len
@@ -21,3 +22,24 @@ module _ (s : List ℕ) (start len : ℕ) where
   part-in h l =
       let e : start + len - start ≡ len = omega arith in
       rw (le-leb (start + len) (length s) (omega arith), e)
+
+  pub clip-far : length s ≤ start → [] ≡ clipped s start len
+  unfolding clipped
+  clip-far h = rw (drop-of-length-le s h) (sym (take-nil len))
+
+  pub clip-long : length s - start ≤ len → take (length s - start) (drop start s) ≡ clipped s start len
+  unfolding clipped
+  clip-long h =
+      let l = length-drop start s in
+      take-all (length s - start) (drop start s) (omega (arith, l)) ∙ sym (take-all len (drop start s) (omega (arith, l)))
+
+  pub clip-in : take (start + len - start) (drop start s) ≡ clipped s start len
+  unfolding clipped
+  clip-in =
+      let e : start + len - start ≡ len = omega arith in
+      rw e
+
+  -- inside the text both notions are the same
+  pub part-clipped : start + len ≤ length s → partOf s start len ≡ clipped s start len
+  unfolding partOf clipped
+  part-clipped h = rw (le-leb (start + len) (length s) h)

@@ -16,6 +16,7 @@ pub use order::Ordering;
 pub use order::compare;
 pub use order::same;
 pub use span::Span;
+pub use span::clip;
 pub use span::part;
 pub use trimming::trim;
 pub use trimming::trimmed_text;

@@ -1,5 +1,5 @@
 use borrow.Author.Needs.{needs}
-use Rattle.report.proofs.Puts.{set-far, set-past}
+use Rattle.names.proofs.Puts.{set-far, set-past}
 use Rattle.report.proofs.list.put_number.Statement.{statement}
 use Rattle.report.proofs.list.put_number.Tie as tie
 

@@ -10,7 +10,7 @@ returns c = simp (c .if1 .taken)
 
 returns-2 : tie.Need-returns-2
 unfolding tidy
-returns-2 c = rw (c .before .if1 .left) (carried (c .signed .ok) (c .signed .ensures))
+returns-2 c = rw (c .before .if1 .left) (carried (c .sum .ok) (c .sum .ensures))
 
 pub place-start-spec : {M : Type 1} → statement M
 place-start-spec = tie.close (tie.spec returns (λ c κs. search needs) returns-2)

@@ -1,18 +1,18 @@
 use Rattle.table.specs.Links.{joins}
-use borrow.Author.Needs.{needs}
 use Rattle.table.proofs.links.does_join.Statement.{statement}
 use Rattle.table.proofs.links.does_join.Tie as tie
 
-field-of-requires : tie.Need-field-of-requires
-field-of-requires c κs = search needs
-
 returns : tie.Need-returns
 unfolding joins
-returns c = simp (c .if1 .taken, ← c .before .field-of .ensures, ← c .before .before .before .pre)
+returns c = simp (c .if1 .taken)
 
 returns-2 : tie.Need-returns-2
 unfolding joins
-returns-2 c = simp (c .if1 .left, ← c .before .field-of .ensures)
+returns-2 c = simp (c .if2 .taken, c .before .if1 .left)
+
+returns-3 : tie.Need-returns-3
+unfolding joins
+returns-3 c = simp (c .if2 .left, c .before .if1 .left)
 
 pub does-join-spec : {M : Type 1} → statement M
-does-join-spec = tie.close (tie.spec field-of-requires returns returns-2)
+does-join-spec = tie.close (tie.spec returns returns-2 returns-3)

@@ -1,22 +1,23 @@
-use Rattle.table.proofs.Records.{past}
+use Rattle.table.proofs.Chains.{link-is, link-past}
 use borrow.Author.Needs.{needs}
 use Rattle.table.proofs.links.link_at.Statement.{statement}
 use Rattle.table.proofs.links.link_at.Tie as tie
 
-mul-wide : tie.Need-mul-wide
-mul-wide c = search needs
+mul-number-at : tie.Need-mul-number-at
+mul-number-at c = search needs
 
-shared-slice-read-wide : tie.Need-shared-slice-read-wide
-shared-slice-read-wide c = search needs
+add-number-at : tie.Need-add-number-at
+add-number-at c = search needs
 
-wide-requires : tie.Need-wide-requires
-wide-requires c κs = search needs
+number-at-requires : tie.Need-number-at-requires
+number-at-requires c κs = search needs
 
 returns : tie.Need-returns
-returns c = search needs
+returns c = search link-is
 
 returns-2 : tie.Need-returns-2
-returns-2 c = search past
+returns-2 c = search link-past
 
 pub link-at-spec : {M : Type 1} → statement M
-link-at-spec = tie.close (tie.spec mul-wide shared-slice-read-wide wide-requires returns returns-2)
+link-at-spec =
+    tie.close (tie.spec mul-number-at add-number-at number-at-requires returns returns-2)

@@ -9,12 +9,12 @@ field-at-requires c κs = search needs
 field-at-requires-2 : tie.Need-field-at-requires-2
 field-at-requires-2 c κs = search needs
 
-part-requires : tie.Need-part-requires
-part-requires c κs = search needs
+clip-requires : tie.Need-clip-requires
+clip-requires c κs = search needs
 
 returns : tie.Need-returns
 unfolding textOf
-returns c = simp (c .part .ensures, ← c .before .field-at2 .ensures, ← c .before .before .field-at .ensures)
+returns c = simp (c .clip .ensures, ← c .before .field-at2 .ensures, ← c .before .before .field-at .ensures)
 
 pub joined-text-spec : {M : Type 1} → statement M
-joined-text-spec = tie.close (tie.spec field-at-requires field-at-requires-2 part-requires returns)
+joined-text-spec = tie.close (tie.spec field-at-requires field-at-requires-2 clip-requires returns)

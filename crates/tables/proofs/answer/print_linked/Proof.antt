@@ -4,13 +4,10 @@ use Rattle.tables.proofs.answer.print_linked.Statement.{statement}
 use Rattle.tables.proofs.answer.print_linked.Tie as tie
 
 abbrev Inv-loop : tie.InvT-loop
-Inv-loop first next i mark c₀ left₀ t8 c left = 0 ≤ left
+Inv-loop links i first mark c₀ left₀ t8 c left = 0 ≤ left
 
 abbrev μ-loop : tie.MeasureT-loop
-μ-loop first next i mark c₀ left₀ t8 c left = left
-
-link-at-requires : tie.Need-link-at-requires Inv-loop μ-loop
-link-at-requires c κs = search needs
+μ-loop links i first mark c₀ left₀ t8 c left = left
 
 returns : tie.Need-returns Inv-loop μ-loop
 returns c = search needs
@@ -33,8 +30,8 @@ print-number-requires-2 c κs = search needs
 loop-holds : tie.Need-loop-holds Inv-loop μ-loop
 loop-holds c = search needs
 
-link-at-requires-2 : tie.Need-link-at-requires-2 Inv-loop μ-loop
-link-at-requires-2 c κs = search needs
+next-of-requires : tie.Need-next-of-requires Inv-loop μ-loop
+next-of-requires c κs = search needs
 
 returns-2 : tie.Need-returns-2 Inv-loop μ-loop
 returns-2 c = search needs
@@ -66,7 +63,6 @@ print-linked-spec =
     (tie.spec
     Inv-loop
     μ-loop
-    link-at-requires
     returns
     slice-aggregate-print
     print-requires
@@ -74,7 +70,7 @@ print-linked-spec =
     print-requires-2
     print-number-requires-2
     loop-holds
-    link-at-requires-2
+    next-of-requires
     returns-2
     slice-aggregate-print-2
     print-requires-3

@@ -4,19 +4,25 @@ use Rattle.tables.proofs.answer.print_links.Statement.{statement}
 use Rattle.tables.proofs.answer.print_links.Tie as tie
 
 abbrev Inv-loop : tie.InvT-loop
-Inv-loop n first attr next i₀ t6 t7 i = 0 ≤ i
+Inv-loop n links i₀ t4 t5 i = 0 ≤ i
 
 abbrev μ-loop : tie.MeasureT-loop
-μ-loop n first attr next i₀ t6 t7 i = n - i
+μ-loop n links i₀ t4 t5 i = n - i
 
 loop-holds : tie.Need-loop-holds Inv-loop μ-loop
 loop-holds c = search needs
+
+first-of-requires : tie.Need-first-of-requires Inv-loop μ-loop
+first-of-requires c κs = search needs
 
 slice-aggregate-print-linked : tie.Need-slice-aggregate-print-linked Inv-loop μ-loop
 slice-aggregate-print-linked c = search needs
 
 print-linked-requires : tie.Need-print-linked-requires Inv-loop μ-loop
 print-linked-requires c κs = search needs
+
+first-attribute-requires : tie.Need-first-attribute-requires Inv-loop μ-loop
+first-attribute-requires c κs = search needs
 
 slice-aggregate-print-linked-2 : tie.Need-slice-aggregate-print-linked-2 Inv-loop μ-loop
 slice-aggregate-print-linked-2 c = search needs
@@ -43,8 +49,10 @@ print-links-spec =
     Inv-loop
     μ-loop
     loop-holds
+    first-of-requires
     slice-aggregate-print-linked
     print-linked-requires
+    first-attribute-requires
     slice-aggregate-print-linked-2
     print-linked-requires-2
     add-i

@@ -1,0 +1,2 @@
+pub mod LinkDoc
+pub mod Trimmed

@@ -1,0 +1,26 @@
+// Children of elements, by name.
+ghost use mathlib.Core.Path.{_≡_};
+ghost use Rattle.table.specs.Table.{found};
+ghost use Rattle.report.specs.Values.{textOf};
+ghost use Rattle.settlement.specs.Values as reading;
+ghost use Rattle.element.specs.LinkDoc.{linkDoc};
+use crate::texts::text_in;
+use report::Text;
+
+// The first child of a name of element n, and 0 where there is none: record 0 is nobody's child.
+pub fn kid(table: &[u32], text: &[u8], links: &[u16], n: usize, want: &[u8]) -> usize
+    ensures { λ c. ⌜ found c ≡ reading.kid (linkDoc (now (table .entry)) (now (text .entry)) (now (links .entry))) n (now (want .entry)) ⌝ }
+{
+    table::first_child(table, text, links, n, want)
+}
+
+// Its text, trimmed in a mode; absent where there is no such child or its text is blank.
+pub fn kid_text(table: &[u32], text: &[u8], links: &[u16], mode: u32, n: usize, want: &[u8]) -> Text
+    ensures { λ t. ⌜ textOf t ≡ reading.kidText (linkDoc (now (table .entry)) (now (text .entry)) (now (links .entry))) mode n (now (want .entry)) ⌝ }
+{
+    let c = kid(table, text, links, n, want);
+    if c == 0 {
+        return Text::Absent;
+    }
+    text_in(table, text, links, mode, c)
+}

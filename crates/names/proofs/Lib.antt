@@ -1,0 +1,4 @@
+pub mod Puts
+pub mod Lines
+pub mod Numbers
+pub mod Texts

@@ -1,0 +1,7 @@
+pub mod Put
+pub mod Line
+pub mod Numbered
+pub mod Message
+pub mod Path
+pub mod Term
+pub mod Parent
