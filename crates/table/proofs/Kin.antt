@@ -43,7 +43,7 @@ module _ (t : List ℕ) (k : ℕ) where
       go true = append-assoc (below t k i j) (j ∷ []) (from i (suc j) m)
       go false = simp append-nil
 
--- a record that is under none as another is
+-- a record that is not of this kind under this parent
 pub not-kin : (t : List ℕ) (k i j : ℕ) → (Kin t k i j → ⊥) → kin t k i j ≡ false
 not-kin t k i j f = go (kin t k i j) refl
   where
