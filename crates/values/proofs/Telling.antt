@@ -55,3 +55,7 @@ told-said p = record { same = refl; said = p }
 -- a required amount: 0 where it failed
 pub told-or-zero : {s : Says Place (Option ℤ)} {l l′ : List ℤ} {at r : ℕ} {v : Option ℤ} {z : ℤ} → Told s l at v l′ r → z ≡ or (pos 0) v → Told (or (pos 0) (s .0), s .1) l at z l′ r
 told-or-zero p e = record { same = e ∙ ap (or (pos 0)) (p .same); said = p .said }
+
+-- one entry first
+pub told-after : {A : Type 0} {e : Entry Place} {s : Says Place A} {l l′ l″ : List ℤ} {at a b : ℕ} {v : A} → Said (e ∷ []) l at l′ a → Told s l′ a v l″ b → Told (s .0, e ∷ s .1) l at v l″ b
+told-after p q = record { same = q .same; said = said-then p (q .said) }
