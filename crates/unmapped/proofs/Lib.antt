@@ -1,0 +1,4 @@
+pub mod Cases
+pub mod Halving
+pub mod Moves
+pub mod Reading

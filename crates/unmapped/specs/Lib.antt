@@ -1,0 +1,3 @@
+pub mod Noting
+pub mod Row
+pub mod Search
