@@ -1,5 +1,6 @@
 // `InvoiceAmount`: a monetary amount in hundredths (EN 16931-1, 6.5.2).
 ghost use mathlib.Core.Path.{_≡_};
+ghost use lib.IntN.{pos};
 ghost use Rattle.amount.specs.Amount.{parsedAmount};
 ghost use Rattle.amount.specs.Answers.{amountAnswer};
 ghost use Rattle.amount.specs.Walk.{ranged, padded, endedOf, finishOf};
@@ -87,6 +88,13 @@ fn finish(w: Walk) -> ParsedAmount
 }
 
 impl InvoiceAmount {
+    // No amount at all: 0.
+    pub fn zero() -> InvoiceAmount
+        ensures { λ r. ⌜ r .0 ≡ pos 0 ⌝ }
+    {
+        InvoiceAmount(0)
+    }
+
     // The amount that s, trimmed in a mode, writes.
     pub fn parse(s: &[u8], mode: u32) -> ParsedAmount
         ensures { λ r. ⌜ amountAnswer r ≡ parsedAmount mode (now (s .entry)) ⌝ }

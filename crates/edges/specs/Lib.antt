@@ -1,3 +1,2 @@
 pub mod Names
 pub mod Answers
-pub mod Edges

@@ -29,17 +29,21 @@ use Rattle.element.specs.Trimmed.{trimmedAt}
 pub place-is : {a b s n : ℕ} → a ≡ s → b ≡ n → _≡_ {A = Place} (record { start = a + 0; len = b }) (record { start = s; len = n })
 place-is {a} e f = rw (add-zero a, e, f)
 
--- a record stands for itself, and 0 for none
+-- a record but 0 stands for itself
+pub found-is : {k : ℕ} → (k ≡ 0 → ⊥) → found k ≡ some k
+found-is {k} z = go k z
+  where
+    go : (k : ℕ) → (k ≡ 0 → ⊥) → found k ≡ some k
+    go zero z = absurd (z refl)
+    go (suc k) z = refl
+
+-- what is made of a record, and of none
 module _ {A : Type 0} (b : A) (f : ℕ → A) {o : Option ℕ} {k : ℕ} where
   pub found-none : found k ≡ o → k ≡ 0 → maybe b f o ≡ b
   found-none e z = rw (← e, z)
 
   pub found-some : found k ≡ o → (k ≡ 0 → ⊥) → maybe b f o ≡ f k
-  found-some e z = rw (← e) (go k z)
-    where
-      go : (k : ℕ) → (k ≡ 0 → ⊥) → maybe b f (found k) ≡ f k
-      go zero z = absurd (z refl)
-      go (suc k) z = refl
+  found-some e z = rw (← e, found-is z)
 
 -- a part is no longer than was asked for
 clipped-short : (x : List ℕ) (a n : ℕ) → length (clipped x a n) ≤ n

@@ -50,7 +50,12 @@ pub fn raw_text(table: &[u32], r: usize) -> Text
 }
 
 // The bytes of the text of element r, none where it has none.
-pub fn text_bytes<'a, 'b>(table: &'b [u32], text: &'a [u8], links: &'b [u16], r: usize) -> &'a [u8]
+pub fn text_bytes<'a, 'b, 'c>(
+    table: &'b [u32],
+    text: &'a [u8],
+    links: &'c [u16],
+    r: usize,
+) -> &'a [u8]
     ensures { λ s. ⌜ now s ≡ textBytes (linkDoc (now (table .entry)) (now (text .entry)) (now (links .entry))) r ⌝ }
 {
     table::joined_text(table, text, r)

@@ -43,11 +43,11 @@ module _ {N X : Type 0} (L : Lent) (D : Doc N X) where
     pub money : sameKind (kindOf D x) summation ≡ true → NoCurrency y
 
   -- a child leaves every other lane alone
-  frame : (l : Kind) (s : State X) (n : N) → sameKind l (home (kindOf D n)) ≡ false → step L D s n l ≡ s l
+  pub frame : (l : Kind) (s : State X) (n : N) → sameKind l (home (kindOf D n)) ≡ false → step L D s n l ≡ s l
   unfolding step
   frame l s n e = rw e
 
-  own-lane : (l : Kind) (s : State X) (n : N) → sameKind l (home (kindOf D n)) ≡ true → step L D s n l ≡ act L D l s n .next
+  pub own-lane : (l : Kind) (s : State X) (n : N) → sameKind l (home (kindOf D n)) ≡ true → step L D s n l ≡ act L D l s n .next
   unfolding step
   own-lane l s n e = rw e
 
@@ -130,7 +130,7 @@ tagged-charge true a = refl
 tagged-charge false a = refl
 
 -- a lane makes no rows of another's kinds
-tagged-none : {X : Type 0} (j : ℕ) (l : Kind) (rs : List (Held X)) → Tagged l rs → rowLane j ≢ l → ofKind j rs ≡ []
+pub tagged-none : {X : Type 0} (j : ℕ) (l : Kind) (rs : List (Held X)) → Tagged l rs → rowLane j ≢ l → ofKind j rs ≡ []
 unfolding ofKind keep
 tagged-none j l [] t h = refl
 tagged-none {X} j l (r ∷ rs) t h = go (eqb (rowKind r) j) refl (tagged-none j l rs (t .1) h)
@@ -167,7 +167,7 @@ module _ {N X : Type 0} (L : Lent) (D : Doc N X) where
   own-rows accounting b s cur n = tt
   own-rows other b s cur n = tt
 
-  held-rows : (s : State X) (n : N) → Tagged (home (kindOf D n)) (holdsOf L D s n)
+  pub held-rows : (s : State X) (n : N) → Tagged (home (kindOf D n)) (holdsOf L D s n)
   unfolding holdsOf act
   held-rows s n = own-rows (home (kindOf D n)) _ _ _ n
 

@@ -4,11 +4,11 @@ use mathlib.Core.Bool.{Bool, true, false, cond, false≢true}
 use mathlib.Core.Logic.{_⊎_, inl, inr, _≢_}
 use Rattle.settlement.specs.Kinds.{Kind, allowanceCharge, logisticsCharge, Kind-discrete, isYes, sameKind, home}
 
-isYes-true : {A : Type 0} (d : Dec A) → isYes d ≡ true → A
+pub isYes-true : {A : Type 0} (d : Dec A) → isYes d ≡ true → A
 isYes-true (yes a) e = a
 isYes-true (no a) e = absurd (false≢true e)
 
-isYes-here : {A : Type 0} (d : Dec A) → A → isYes d ≡ true
+pub isYes-here : {A : Type 0} (d : Dec A) → A → isYes d ≡ true
 isYes-here (yes a) e = refl
 isYes-here (no a) e = absurd (a e)
 
@@ -27,6 +27,12 @@ sameKind-no a b d = go (Kind-discrete a b)
     go : (o : Dec (a ≡ b)) → isYes o ≡ false
     go (yes p) = absurd (d p)
     go (no p) = refl
+
+-- two tests that hold together are the same
+pub same-test : (a b : Bool) → (a ≡ true → b ≡ true) → (b ≡ true → a ≡ true) → a ≡ b
+same-test true b p q = sym (p refl)
+same-test false true p q = q refl
+same-test false false p q = refl
 
 pub home-cases : (k : Kind) → (home k ≡ k) ⊎ (k ≡ logisticsCharge)
 unfolding home

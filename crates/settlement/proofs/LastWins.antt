@@ -1,118 +1,155 @@
 -- The terms of which the last child of a name decides (document 01, `read.rs`: the last wins, even blank).
-use mathlib.Core.Path.{_≡_, refl, sym, ap, _∙_}
-use mathlib.Core.Bool.{Bool, true, false, cond, true≢false}
+use mathlib.Core.Path.{_≡_, refl, ap, ap₂, _∙_}
+use mathlib.Core.Bool.{Bool, true, false, cond}
 use mathlib.Core.List.{List, [], _∷_, foldl}
-use mathlib.Core.Logic.{_≢_}
 use mathlib.Core.Option.{Option, none, some}
-use Rattle.text.specs.Order.{equal}
-use Rattle.text.specs.Utf8.{bytes, encode}
-use Rattle.text.proofs.Orders.{equal-is, equal-refl}
+use Prim.Native.Nat.{ℕ}
+use lib.IntN.{ℤ, pos}
+use Rattle.text.specs.Utf8.{bytes}
 use Rattle.settlement.specs.Document.{Doc, maybe, orElse, or}
-use Rattle.settlement.specs.Kinds.{Kind, paymentReference, taxCurrency, invoiceCurrency, payee, period, allowanceCharge, paymentTerms, accounting, other, sameKind, home, meant, kinds, kindNamed}
-use Rattle.settlement.specs.Shapes.{PaymentTerms, Of, State, blank, Currencies}
+use Rattle.settlement.specs.Kinds.{Kind, creditorReference, paymentReference, taxCurrency, invoiceCurrency, payee, period, paymentMeans, paymentTerms, summation, accounting}
+use Rattle.settlement.specs.Shapes.{Payee, Means, unset, card, debit, transfers, PaymentTerms, Period, Totals, noTotals, Of, State, blank, Currencies}
 use Rattle.settlement.specs.Values.{Lent, ownText, textIn, kid, kidText}
-use Rattle.settlement.specs.Settlement.{payeeOf, quiet, periodOf, paymentTermsOf, own, kindOf, act, step, after, termsOf, readingOf}
-use Rattle.settlement.specs.Last.{lastNamed}
-use Rattle.settlement.proofs.Lanes.{sameKind-eq, sameKind-refl}
-use Rattle.settlement.proofs.Names.{kindName, kind-name, home-is}
+use Rattle.settlement.specs.Summation.{totals}
+use Rattle.settlement.specs.Settlement.{payeeOf, quiet, periodOf, paymentTermsOf, own, act, step, besides, debited, debitOf, after, termsOf, readingOf}
+use Rattle.settlement.specs.Last.{isNamed, lastNamed, ofDebit}
+use Rattle.settlement.specs.ChildRows.{amountOrZero, dayIn}
+use Rattle.settlement.proofs.Names.{kindName, Own, own-of, at-home}
+use Rattle.settlement.proofs.PlainValues.{required-is, date-is}
 
 module _ {N X : Type 0} (L : Lent) (D : Doc N X) where
-  -- a lane of its own: its children are those of its name
-  record Own (l : Kind) : Type 0 where
-    pub named : kindNamed (bytes (kindName l)) ≡ l
-    pub home : home l ≡ l
-    pub read : l ≢ other
-    pub alone : l ≢ allowanceCharge
-
-  at-home : (l : Kind) → Own l → (n : N) → sameKind l (home (kindOf D n)) ≡ equal (D .bytes (D .name n)) (bytes (kindName l))
-  at-home l o n = go (sameKind l (home (kindOf D n))) (equal (D .bytes (D .name n)) (bytes (kindName l))) refl refl
-    where
-      there : sameKind l (home (kindOf D n)) ≡ true → equal (D .bytes (D .name n)) (bytes (kindName l)) ≡ true
-      there e =
-          let k : kindOf D n ≡ l = home-is L D (kindOf D n) l (sym (sameKind-eq l (home (kindOf D n)) e)) (o .alone) in
-          rw (kind-name L D n l k (o .read)) (equal-refl (bytes (kindName l)))
-
-      back : equal (D .bytes (D .name n)) (bytes (kindName l)) ≡ true → sameKind l (home (kindOf D n)) ≡ true
-      back e =
-          let k : kindOf D n ≡ l = unfold kindOf in (ap kindNamed (equal-is (D .bytes (D .name n)) (bytes (kindName l)) e) ∙ o .named) in
-          rw (k, o .home) (sameKind-refl l)
-
-      go : (a b : Bool) → sameKind l (home (kindOf D n)) ≡ a → equal (D .bytes (D .name n)) (bytes (kindName l)) ≡ b → a ≡ b
-      go true true p q = refl
-      go true false p q = sym (there p) ∙ q
-      go false true p q = sym p ∙ back q
-      go false false p q = refl
-
-  -- a lane that forgets what it held has what its last child makes
-  module _ (l : Kind) (o : Own l) (f : N → Of X l) (forgets : (b : Bool) (s : Of X l) (cur : Currencies X) (n : N) → own L D l b s cur n .next ≡ f n) where
-    one : (s : State X) (n : N) → step L D s n l ≡ cond (equal (D .bytes (D .name n)) (bytes (kindName l))) (f n) (s l)
+  -- what a lane forgets, its last child makes
+  module _ {B : Type 0} (l : Kind) (o : Own l) (has : Of X l → B) (f : N → B) (forgets : (b : Bool) (s : Of X l) (cur : Currencies X) (n : N) → has (own L D l b s cur n .next) ≡ f n) where
+    one : (s : State X) (n : N) → has (step L D s n l) ≡ cond (isNamed D (kindName l) n) (f n) (has (s l))
     unfolding step act
-    one s n = rw (at-home l o n, forgets _ (s l) _ n)
+    one s n = rw (at-home L D l o n) (go (isNamed D (kindName l) n))
+      where
+        go : (b : Bool) → has (cond b (act L D l s n .next) (s l)) ≡ cond b (f n) (has (s l))
+        go true = forgets _ (s l) _ n
+        go false = refl
 
-    lane-last : (s : State X) (cs : List N) → foldl (step L D) s cs l ≡ maybe (s l) f (lastNamed D (kindName l) cs)
+    lane-last : (s : State X) (cs : List N) → has (foldl (step L D) s cs l) ≡ maybe (has (s l)) f (lastNamed D (kindName l) cs)
     unfolding lastNamed
     lane-last s [] = refl
-    lane-last s (c ∷ cs) = lane-last (step L D s c) cs ∙ go (lastNamed D (kindName l) cs) (equal (D .bytes (D .name c)) (bytes (kindName l))) (one s c)
+    lane-last s (c ∷ cs) = lane-last (step L D s c) cs ∙ go (lastNamed D (kindName l) cs) (isNamed D (kindName l) c) (one s c)
       where
-        go : (r : Option N) (b : Bool) {a : Of X l} → a ≡ cond b (f c) (s l) → maybe a f r ≡ maybe (s l) f (orElse r (cond b (some c) none))
+        go : (r : Option N) (b : Bool) {a : B} → a ≡ cond b (f c) (has (s l)) → maybe a f r ≡ maybe (has (s l)) f (orElse r (cond b (some c) none))
         go none true e = e
         go none false e = e
         go (some n) b e = refl
 
-through : {A B C : Type 0} (g : B → C) (b : B) (f : A → B) (o : Option A) → g (maybe b f o) ≡ maybe (g b) (λ a. g (f a)) o
-through g b f none = refl
-through g b f (some a) = refl
+-- mandate and creditor identifier stand in a direct debit alone
+module _ {X : Type 0} where
+  debited-mandate : (m : Means X) (a c : Option X) → debited m a c .mandate ≡ ofDebit (debited m a c .means) a
+  unfolding debited besides
+  debited-mandate unset none none = refl
+  debited-mandate unset none (some x) = refl
+  debited-mandate unset (some x) c = refl
+  debited-mandate (card x y) a c = refl
+  debited-mandate (debit x) a c = refl
+  debited-mandate transfers a c = refl
+
+  debited-creditor : (m : Means X) (a c : Option X) → debited m a c .creditor ≡ ofDebit (debited m a c .means) c
+  unfolding debited besides
+  debited-creditor unset none none = refl
+  debited-creditor unset none (some x) = refl
+  debited-creditor unset (some x) c = refl
+  debited-creditor (card x y) a c = refl
+  debited-creditor (debit x) a c = refl
+  debited-creditor transfers a c = refl
 
 module _ {N X : Type 0} (L : Lent) (D : Doc N X) (cs : List N) where
   -- BT-5 is the trimmed text of the last InvoiceCurrencyCode, "" where that is blank
   pub bt5-last : readingOf L D cs .terms .bt5 ≡ maybe none (λ n. some (ownText D 0 n)) (lastNamed D "InvoiceCurrencyCode" cs)
-  unfolding readingOf termsOf after own quiet kindNamed meant kinds equal bytes encode home sameKind
-  bt5-last =
-      lane-last L D invoiceCurrency (record { named = refl; home = refl; read = λ e. true≢false cc; alone = λ e. true≢false cc }) (λ n. some (ownText D 0 n)) (λ b s cur n. refl) (blank X) cs
+  unfolding readingOf termsOf after own quiet
+  bt5-last = lane-last L D invoiceCurrency (own-of invoiceCurrency tt) (λ (s : Option X). s) (λ n. some (ownText D 0 n)) (λ b s cur n. refl) (blank X) cs
 
   -- BT-6 of the last TaxCurrencyCode, alike
   pub bt6-last : readingOf L D cs .terms .bt6 ≡ maybe none (λ n. some (ownText D 0 n)) (lastNamed D "TaxCurrencyCode" cs)
-  unfolding readingOf termsOf after own quiet kindNamed meant kinds equal bytes encode home sameKind
-  bt6-last =
-      lane-last L D taxCurrency (record { named = refl; home = refl; read = λ e. true≢false cc; alone = λ e. true≢false cc }) (λ n. some (ownText D 0 n)) (λ b s cur n. refl) (blank X) cs
+  unfolding readingOf termsOf after own quiet
+  bt6-last = lane-last L D taxCurrency (own-of taxCurrency tt) (λ (s : Option X). s) (λ n. some (ownText D 0 n)) (λ b s cur n. refl) (blank X) cs
 
-  -- BT-83 is the trimmed text of the last PaymentReference, absent where that is blank
+  -- the last PaymentReference
+  pub reference-last : after L D cs paymentReference ≡ maybe none (λ n. some (textIn D 0 n)) (lastNamed D "PaymentReference" cs)
+  unfolding after own quiet
+  reference-last = lane-last L D paymentReference (own-of paymentReference tt) (λ (s : Option (Option X)). s) (λ n. some (textIn D 0 n)) (λ b s cur n. refl) (blank X) cs
+
+  -- BT-83 is its trimmed text, absent where that is blank
   pub bt83-last : readingOf L D cs .terms .bt83 ≡ maybe none (λ n. textIn D 0 n) (lastNamed D "PaymentReference" cs)
-  unfolding readingOf termsOf after own quiet kindNamed meant kinds equal bytes encode home sameKind
-  bt83-last =
-      ap (or none) (lane-last L D paymentReference (record { named = refl; home = refl; read = λ e. true≢false cc; alone = λ e. true≢false cc }) (λ n. some (textIn D 0 n)) (λ b s cur n. refl) (blank X) cs)
-      ∙ through (or none) none (λ n. some (textIn D 0 n)) (lastNamed D "PaymentReference" cs)
+  unfolding readingOf termsOf after own quiet
+  bt83-last = lane-last L D paymentReference (own-of paymentReference tt) (or none) (λ n. textIn D 0 n) (λ b s cur n. refl) (blank X) cs
 
   -- BT-19 is the ID of the last accounting account
   pub bt19-last : readingOf L D cs .terms .bt19 ≡ maybe none (λ n. kidText D 0 n (bytes "ID")) (lastNamed D "ReceivableSpecifiedTradeAccountingAccount" cs)
-  unfolding readingOf termsOf after own quiet kindNamed meant kinds equal bytes encode home sameKind
-  bt19-last =
-      lane-last L D accounting (record { named = refl; home = refl; read = λ e. true≢false cc; alone = λ e. true≢false cc }) (λ n. kidText D 0 n (bytes "ID")) (λ b s cur n. refl) (blank X) cs
+  unfolding readingOf termsOf after own quiet
+  bt19-last = lane-last L D accounting (own-of accounting tt) (λ (s : Option X). s) (λ n. kidText D 0 n (bytes "ID")) (λ b s cur n. refl) (blank X) cs
 
   -- BG-10 is that of the last payee
   pub payee-last : readingOf L D cs .terms .payee ≡ maybe none (λ n. some (payeeOf D n)) (lastNamed D "PayeeTradeParty" cs)
-  unfolding readingOf termsOf after own quiet kindNamed meant kinds equal bytes encode home sameKind
-  payee-last =
-      lane-last L D payee (record { named = refl; home = refl; read = λ e. true≢false cc; alone = λ e. true≢false cc }) (λ n. some (payeeOf D n)) (λ b s cur n. refl) (blank X) cs
+  unfolding readingOf termsOf after own quiet
+  payee-last = lane-last L D payee (own-of payee tt) (λ (s : Option (Payee X)). s) (λ n. some (payeeOf D n)) (λ b s cur n. refl) (blank X) cs
 
-  -- BG-14 is that of the last period
-  pub period-last : readingOf L D cs .terms .period ≡ maybe none (λ n. periodOf (L .mode) D n .next) (lastNamed D "BillingSpecifiedPeriod" cs)
-  unfolding readingOf termsOf after own quiet kindNamed meant kinds equal bytes encode home sameKind
+  -- BG-14 has the dates of the last period
+  pub period-last : readingOf L D cs .terms .period ≡ maybe none (λ n. some (record { start = dayIn (L .mode) D n (bytes "StartDateTime"); end = dayIn (L .mode) D n (bytes "EndDateTime") })) (lastNamed D "BillingSpecifiedPeriod" cs)
+  unfolding readingOf termsOf after own periodOf
   period-last =
-      lane-last L D period (record { named = refl; home = refl; read = λ e. true≢false cc; alone = λ e. true≢false cc }) (λ n. periodOf (L .mode) D n .next) (λ b s cur n. refl) (blank X) cs
+      lane-last L D period (own-of period tt) (λ (s : Option Period). s)
+      (λ n. some (record { start = dayIn (L .mode) D n (bytes "StartDateTime"); end = dayIn (L .mode) D n (bytes "EndDateTime") }))
+      (λ b s cur n. ap₂ (λ (a z : Option ℕ). some (record { start = a; end = z })) (date-is (L .mode) D _ _ _ n (bytes "StartDateTime")) (date-is (L .mode) D _ _ _ n (bytes "EndDateTime"))) (blank X) cs
 
-  -- the last payment terms
-  terms-last : after L D cs paymentTerms ≡ maybe (blank X paymentTerms) (λ n. paymentTermsOf (L .mode) D n .next) (lastNamed D "SpecifiedTradePaymentTerms" cs)
-  unfolding after own kindNamed meant kinds equal bytes encode home sameKind
-  terms-last =
-      lane-last L D paymentTerms (record { named = refl; home = refl; read = λ e. true≢false cc; alone = λ e. true≢false cc }) (λ n. paymentTermsOf (L .mode) D n .next) (λ b s cur n. refl) (blank X) cs
-
-  -- BT-20 is their untrimmed description
+  -- BT-20 is the untrimmed description of the last payment terms
   pub bt20-last : readingOf L D cs .terms .bt20 ≡ maybe none (λ n. maybe none (D .text) (kid D n (bytes "Description"))) (lastNamed D "SpecifiedTradePaymentTerms" cs)
-  unfolding readingOf termsOf paymentTermsOf
-  bt20-last = ap (λ (p : PaymentTerms X). p .note) terms-last ∙ through (λ (p : PaymentTerms X). p .note) (blank X paymentTerms) (λ n. paymentTermsOf (L .mode) D n .next) (lastNamed D "SpecifiedTradePaymentTerms" cs)
+  unfolding readingOf termsOf after own paymentTermsOf
+  bt20-last = lane-last L D paymentTerms (own-of paymentTerms tt) (λ (s : PaymentTerms X). s .note) (λ n. maybe none (D .text) (kid D n (bytes "Description"))) (λ b s cur n. refl) (blank X) cs
 
   -- BT-9 is their due date
-  pub bt9-last : readingOf L D cs .terms .bt9 ≡ maybe none (λ n. paymentTermsOf (L .mode) D n .next .due) (lastNamed D "SpecifiedTradePaymentTerms" cs)
-  unfolding readingOf termsOf
-  bt9-last = ap (λ (p : PaymentTerms X). p .due) terms-last ∙ through (λ (p : PaymentTerms X). p .due) (blank X paymentTerms) (λ n. paymentTermsOf (L .mode) D n .next) (lastNamed D "SpecifiedTradePaymentTerms" cs)
+  pub bt9-last : readingOf L D cs .terms .bt9 ≡ maybe none (λ n. dayIn (L .mode) D n (bytes "DueDateDateTime")) (lastNamed D "SpecifiedTradePaymentTerms" cs)
+  unfolding readingOf termsOf after own paymentTermsOf
+  bt9-last = lane-last L D paymentTerms (own-of paymentTerms tt) (λ (s : PaymentTerms X). s .due) (λ n. dayIn (L .mode) D n (bytes "DueDateDateTime")) (λ b s cur n. date-is (L .mode) D _ _ _ n (bytes "DueDateDateTime")) (blank X) cs
+
+  -- their mandate
+  pub mandate-last : after L D cs paymentTerms .mandate ≡ maybe none (λ n. kidText D 0 n (bytes "DirectDebitMandateID")) (lastNamed D "SpecifiedTradePaymentTerms" cs)
+  unfolding after own paymentTermsOf
+  mandate-last = lane-last L D paymentTerms (own-of paymentTerms tt) (λ (s : PaymentTerms X). s .mandate) (λ n. kidText D 0 n (bytes "DirectDebitMandateID")) (λ b s cur n. refl) (blank X) cs
+
+  -- the last creditor identifier
+  pub creditor-last : after L D cs creditorReference ≡ maybe none (λ n. textIn D 0 n) (lastNamed D "CreditorReferenceID" cs)
+  unfolding after own quiet
+  creditor-last = lane-last L D creditorReference (own-of creditorReference tt) (λ (s : Option X). s) (λ n. textIn D 0 n) (λ b s cur n. refl) (blank X) cs
+
+  -- BT-89 is their mandate, where the means is a direct debit
+  pub bt89-last : readingOf L D cs .terms .bt89 ≡ ofDebit (readingOf L D cs .terms .means) (maybe none (λ n. kidText D 0 n (bytes "DirectDebitMandateID")) (lastNamed D "SpecifiedTradePaymentTerms" cs))
+  unfolding readingOf termsOf debitOf
+  bt89-last = debited-mandate (after L D cs paymentMeans .means) (after L D cs paymentTerms .mandate) (after L D cs creditorReference) ∙ ap (ofDebit (readingOf L D cs .terms .means)) mandate-last
+
+  -- BT-90 is the trimmed text of the last CreditorReferenceID, alike
+  pub bt90-last : readingOf L D cs .terms .bt90 ≡ ofDebit (readingOf L D cs .terms .means) (maybe none (λ n. textIn D 0 n) (lastNamed D "CreditorReferenceID" cs))
+  unfolding readingOf termsOf debitOf
+  bt90-last = debited-creditor (after L D cs paymentMeans .means) (after L D cs paymentTerms .mandate) (after L D cs creditorReference) ∙ ap (ofDebit (readingOf L D cs .terms .means)) creditor-last
+
+  -- a required amount of the last summation, 0 where it is missing or can't be read
+  required-last : (has : Totals → ℤ) (w : List ℕ) → has noTotals ≡ pos 0 → ((cur : Currencies X) (n : N) → has (or noTotals (totals L D cur n .next)) ≡ amountOrZero L D n w) → has (readingOf L D cs .terms .totals) ≡ maybe (pos 0) (λ n. amountOrZero L D n w) (lastNamed D "SpecifiedTradeSettlementHeaderMonetarySummation" cs)
+  unfolding readingOf termsOf after own
+  required-last has w z h =
+      lane-last L D summation (own-of summation tt) (λ (s : Option Totals). has (or noTotals s)) (λ n. amountOrZero L D n w) (λ b s cur n. h cur n) (blank X) cs
+      ∙ ap (λ (a : ℤ). maybe a (λ n. amountOrZero L D n w) (lastNamed D "SpecifiedTradeSettlementHeaderMonetarySummation" cs)) z
+
+  -- BT-106 is its LineTotalAmount
+  pub bt106-last : readingOf L D cs .terms .totals .line ≡ maybe (pos 0) (λ n. amountOrZero L D n (bytes "LineTotalAmount")) (lastNamed D "SpecifiedTradeSettlementHeaderMonetarySummation" cs)
+  unfolding totals
+  bt106-last = required-last (λ (t : Totals). t .line) (bytes "LineTotalAmount") refl (λ cur n. required-is L D _ _ _ n (bytes "LineTotalAmount"))
+
+  -- BT-109 its TaxBasisTotalAmount
+  pub bt109-last : readingOf L D cs .terms .totals .taxable ≡ maybe (pos 0) (λ n. amountOrZero L D n (bytes "TaxBasisTotalAmount")) (lastNamed D "SpecifiedTradeSettlementHeaderMonetarySummation" cs)
+  unfolding totals
+  bt109-last = required-last (λ (t : Totals). t .taxable) (bytes "TaxBasisTotalAmount") refl (λ cur n. required-is L D _ _ _ n (bytes "TaxBasisTotalAmount"))
+
+  -- BT-112 its GrandTotalAmount
+  pub bt112-last : readingOf L D cs .terms .totals .gross ≡ maybe (pos 0) (λ n. amountOrZero L D n (bytes "GrandTotalAmount")) (lastNamed D "SpecifiedTradeSettlementHeaderMonetarySummation" cs)
+  unfolding totals
+  bt112-last = required-last (λ (t : Totals). t .gross) (bytes "GrandTotalAmount") refl (λ cur n. required-is L D _ _ _ n (bytes "GrandTotalAmount"))
+
+  -- BT-115 its DuePayableAmount
+  pub bt115-last : readingOf L D cs .terms .totals .due ≡ maybe (pos 0) (λ n. amountOrZero L D n (bytes "DuePayableAmount")) (lastNamed D "SpecifiedTradeSettlementHeaderMonetarySummation" cs)
+  unfolding totals
+  bt115-last = required-last (λ (t : Totals). t .due) (bytes "DuePayableAmount") refl (λ cur n. required-is L D _ _ _ n (bytes "DuePayableAmount"))

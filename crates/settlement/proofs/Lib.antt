@@ -18,3 +18,9 @@ pub mod Acts
 pub mod Outcomes
 pub mod Room
 pub mod Spans
+pub mod PlainValues
+pub mod HeldRows
+pub mod PaymentParts
+pub mod Transfers
+pub mod FirstWins
+pub mod Edges

@@ -6,18 +6,19 @@ use mathlib.Core.Logic.{_⊎_, inl, inr, _≢_}
 use Prim.Native.Nat.{ℕ}
 use Prim.Native.String.{String}
 use Rattle.text.specs.Order.{equal}
-use Rattle.text.specs.Utf8.{bytes}
-use Rattle.text.proofs.Orders.{equal-is, order-is, order-turned, order-trans}
-use Rattle.names.proofs.Numbers.{parent-same}
+use Rattle.text.specs.Utf8.{bytes, encode}
+use Rattle.text.proofs.Orders.{equal-is, equal-refl, order-is, order-turned, order-trans}
 use Rattle.report.specs.Rows.{Unmapped}
+use Rattle.names.proofs.Numbers.{parent-same}
 use Rattle.settlement.specs.Document.{Doc}
-use Rattle.settlement.specs.Kinds.{Kind, creditorReference, paymentReference, taxCurrency, invoiceCurrency, payee, paymentMeans, tradeTax, period, allowanceCharge, logisticsCharge, paymentTerms, summation, precedingInvoice, accounting, other, Kind-discrete, sameKind, home, meant, kinds, kindNamed}
+use Rattle.settlement.specs.Kinds.{Kind, creditorReference, paymentReference, taxCurrency, invoiceCurrency, payee, paymentMeans, tradeTax, period, allowanceCharge, logisticsCharge, paymentTerms, summation, precedingInvoice, accounting, other, Kind-discrete, isYes, sameKind, home, meant, kinds, kindNamed}
 use Rattle.settlement.specs.Values.{Lent}
 use Rattle.settlement.specs.Settlement.{kindOf, unmappedKey, unmappedOrder, reading}
 use Rattle.settlement.specs.Alike.{Alike}
+use Rattle.settlement.specs.Last.{isNamed}
 use Rattle.settlement.specs.Exchange.{Pair, LeftOut, Exchanged}
 use Rattle.settlement.proofs.Sorting.{Total}
-use Rattle.settlement.proofs.Lanes.{sameKind-eq, sameKind-no, home-cases, Charges, home-same}
+use Rattle.settlement.proofs.Lanes.{isYes-true, isYes-here, sameKind-eq, sameKind-refl, sameKind-no, same-test, home-cases, Charges, home-same}
 use Rattle.settlement.proofs.Exchange.{Lanes, NoCurrency, Free, exchange}
 
 -- the name of a kind
@@ -38,23 +39,82 @@ kindName precedingInvoice = "InvoiceReferencedDocument"
 kindName accounting = "ReceivableSpecifiedTradeAccountingAccount"
 kindName other = ""
 
--- a list that has each kind under its name
-abbrev Named : List (String × Kind) → Type 0
-Named [] = Unit {0}
-Named (c ∷ cs) = (c .0 ≡ kindName (c .1)) × Named cs
+-- names and what they mean in a list, a where it has none
+module _ {A : Type 0} (a : A) (nameOf : A → String) where
+  -- a list that has each under its name
+  abbrev pub Named : List (String × A) → Type 0
+  Named [] = Unit {0}
+  Named (c ∷ cs) = (c .0 ≡ nameOf (c .1)) × Named cs
 
-kinds-named : Named kinds
+  pub meant-name : (cs : List (String × A)) → Named cs → (s : List ℕ) → (meant a cs s ≡ a) ⊎ (s ≡ bytes (nameOf (meant a cs s)))
+  unfolding meant
+  meant-name [] h s = inl refl
+  meant-name (c ∷ cs) h s = go (equal s (bytes (c .0))) refl (meant-name cs (h .1) s)
+    where
+      go : (b : Bool) → equal s (bytes (c .0)) ≡ b → (meant a cs s ≡ a) ⊎ (s ≡ bytes (nameOf (meant a cs s))) → (cond b (c .1) (meant a cs s) ≡ a) ⊎ (s ≡ bytes (nameOf (cond b (c .1) (meant a cs s))))
+      go true e i = inr (equal-is s (bytes (c .0)) e ∙ ap bytes (h .0))
+      go false e i = i
+
+  -- a text means k just where it is its name
+  pub meant-test : (same : (b c : A) → Dec (b ≡ c)) (cs : List (String × A)) → Named cs → (k : A) → meant a cs (bytes (nameOf k)) ≡ k → k ≢ a → (s : List ℕ) → isYes (same (meant a cs s) k) ≡ equal s (bytes (nameOf k))
+  meant-test same cs h k e d s = same-test (isYes (same (meant a cs s) k)) (equal s (bytes (nameOf k))) there back
+    where
+      there : isYes (same (meant a cs s) k) ≡ true → equal s (bytes (nameOf k)) ≡ true
+      there i = go (meant-name cs h s) (isYes-true (same (meant a cs s) k) i)
+        where
+          go : (meant a cs s ≡ a) ⊎ (s ≡ bytes (nameOf (meant a cs s))) → meant a cs s ≡ k → equal s (bytes (nameOf k)) ≡ true
+          go (inl o) m = absurd (d (sym m ∙ o))
+          go (inr o) m = ap (λ (t : List ℕ). equal t (bytes (nameOf k))) (o ∙ ap (λ (i : A). bytes (nameOf i)) m) ∙ equal-refl (bytes (nameOf k))
+
+      back : equal s (bytes (nameOf k)) ≡ true → isYes (same (meant a cs s) k) ≡ true
+      back i = isYes-here (same (meant a cs s) k) (ap (meant a cs) (equal-is s (bytes (nameOf k)) i) ∙ e)
+
+kinds-named : Named other kindName kinds
 unfolding kinds
 kinds-named = (refl, (refl, (refl, (refl, (refl, (refl, (refl, (refl, (refl, (refl, (refl, (refl, (refl, (refl, tt))))))))))))))
 
-meant-name : (cs : List (String × Kind)) → Named cs → (s : List ℕ) → (meant other cs s ≡ other) ⊎ (s ≡ bytes (kindName (meant other cs s)))
-unfolding meant
-meant-name [] h s = inl refl
-meant-name (c ∷ cs) h s = go (equal s (bytes (c .0))) refl (meant-name cs (h .1) s)
-  where
-    go : (b : Bool) → equal s (bytes (c .0)) ≡ b → (meant other cs s ≡ other) ⊎ (s ≡ bytes (kindName (meant other cs s))) → (cond b (c .1) (meant other cs s) ≡ other) ⊎ (s ≡ bytes (kindName (cond b (c .1) (meant other cs s))))
-    go true e i = inr (equal-is s (bytes (c .0)) e ∙ ap bytes (h .0))
-    go false e i = i
+-- a lane of its own: its children are those of its name
+pub record Own (l : Kind) : Type 0 where
+  pub named : kindNamed (bytes (kindName l)) ≡ l
+  pub home : home l ≡ l
+  pub read : l ≢ other
+  pub alone : l ≢ allowanceCharge
+
+-- the kinds that have one
+abbrev pub Alone : Kind → Type 0
+Alone creditorReference = Unit {0}
+Alone paymentReference = Unit {0}
+Alone taxCurrency = Unit {0}
+Alone invoiceCurrency = Unit {0}
+Alone payee = Unit {0}
+Alone paymentMeans = Unit {0}
+Alone tradeTax = Unit {0}
+Alone period = Unit {0}
+Alone allowanceCharge = ⊥
+Alone logisticsCharge = ⊥
+Alone paymentTerms = Unit {0}
+Alone summation = Unit {0}
+Alone precedingInvoice = Unit {0}
+Alone accounting = Unit {0}
+Alone other = ⊥
+
+pub own-of : (l : Kind) → Alone l → Own l
+unfolding home sameKind meant kinds kindNamed equal bytes encode
+own-of creditorReference a = record { named = refl; home = refl; read = λ e. true≢false cc; alone = λ e. true≢false cc }
+own-of paymentReference a = record { named = refl; home = refl; read = λ e. true≢false cc; alone = λ e. true≢false cc }
+own-of taxCurrency a = record { named = refl; home = refl; read = λ e. true≢false cc; alone = λ e. true≢false cc }
+own-of invoiceCurrency a = record { named = refl; home = refl; read = λ e. true≢false cc; alone = λ e. true≢false cc }
+own-of payee a = record { named = refl; home = refl; read = λ e. true≢false cc; alone = λ e. true≢false cc }
+own-of paymentMeans a = record { named = refl; home = refl; read = λ e. true≢false cc; alone = λ e. true≢false cc }
+own-of tradeTax a = record { named = refl; home = refl; read = λ e. true≢false cc; alone = λ e. true≢false cc }
+own-of period a = record { named = refl; home = refl; read = λ e. true≢false cc; alone = λ e. true≢false cc }
+own-of allowanceCharge a = absurd a
+own-of logisticsCharge a = absurd a
+own-of paymentTerms a = record { named = refl; home = refl; read = λ e. true≢false cc; alone = λ e. true≢false cc }
+own-of summation a = record { named = refl; home = refl; read = λ e. true≢false cc; alone = λ e. true≢false cc }
+own-of precedingInvoice a = record { named = refl; home = refl; read = λ e. true≢false cc; alone = λ e. true≢false cc }
+own-of accounting a = record { named = refl; home = refl; read = λ e. true≢false cc; alone = λ e. true≢false cc }
+own-of other a = absurd a
 
 module _ {N X : Type 0} (L : Lent) (D : Doc N X) where
   abbrev name : N → List ℕ
@@ -63,11 +123,16 @@ module _ {N X : Type 0} (L : Lent) (D : Doc N X) where
   -- a kind that is read has its name
   pub kind-name : (n : N) (k : Kind) → kindOf D n ≡ k → k ≢ other → name n ≡ bytes (kindName k)
   unfolding kindOf kindNamed
-  kind-name n k e d = go (meant-name kinds kinds-named (name n))
+  kind-name n k e d = go (meant-name other kindName kinds kinds-named (name n))
     where
       go : (meant other kinds (name n) ≡ other) ⊎ (name n ≡ bytes (kindName (meant other kinds (name n)))) → name n ≡ bytes (kindName k)
       go (inl o) = absurd (d (sym e ∙ o))
       go (inr s) = s ∙ ap (λ (i : Kind). bytes (kindName i)) e
+
+  -- a child is of a kind that is read just where it has its name
+  pub kind-test : (k : Kind) → kindNamed (bytes (kindName k)) ≡ k → k ≢ other → (n : N) → sameKind (kindOf D n) k ≡ isNamed D (kindName k) n
+  unfolding isNamed kindOf kindNamed sameKind
+  kind-test k e d n = meant-test other kindName Kind-discrete kinds kinds-named k e d (name n)
 
   pub home-is : (k l : Kind) → home k ≡ l → l ≢ allowanceCharge → k ≡ l
   unfolding home sameKind
@@ -76,6 +141,13 @@ module _ {N X : Type 0} (L : Lent) (D : Doc N X) where
       go : (home k ≡ k) ⊎ (k ≡ logisticsCharge) → k ≡ l
       go (inl p) = sym p ∙ e
       go (inr p) = absurd (d (sym e ∙ ap home p))
+
+  pub at-home : (l : Kind) → Own l → (n : N) → sameKind l (home (kindOf D n)) ≡ isNamed D (kindName l) n
+  at-home l o n =
+      same-test (sameKind l (home (kindOf D n))) (sameKind (kindOf D n) l)
+      (λ h. rw (home-is (kindOf D n) l (sym (sameKind-eq l (home (kindOf D n)) h)) (o .alone)) (sameKind-refl l))
+      (λ h. rw (sameKind-eq (kindOf D n) l h, o .home) (sameKind-refl l))
+      ∙ kind-test l (o .named) (o .read) n
 
   -- two names of one kind: both are unmapped
   both-other : (x y : N) → kindOf D x ≡ kindOf D y → name x ≢ name y → kindOf D x ≡ other

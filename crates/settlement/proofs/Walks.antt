@@ -56,7 +56,7 @@ module _ {A : Type 0} where
       rw (c .left, c .right)
       (∣ Permᴰ·append-left (c .before) (rw (← (append-assoc p q (c .after)), ← (append-assoc q p (c .after))) (Permᴰ·append-right (c .after) (perm-blocks p q))) ∣₁)
 
-  keep-append : (t : A → Bool) (l r : List A) → keep t (l ++ r) ≡ keep t l ++ keep t r
+  pub keep-append : (t : A → Bool) (l r : List A) → keep t (l ++ r) ≡ keep t l ++ keep t r
   unfolding keep
   keep-append t [] r = refl
   keep-append t (a ∷ l) r = go (t a) (keep-append t l r)

@@ -17,3 +17,6 @@ pub mod Last
 pub mod Sorted
 pub mod Fits
 pub mod Inside
+pub mod ChildRows
+pub mod Transfers
+pub mod Edges

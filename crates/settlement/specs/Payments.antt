@@ -19,6 +19,7 @@ use Rattle.settlement.specs.Values.{site, entry, ownText, textIn, kidTex
 -- the children of a payment means
 pub data Part : Type 0 where
   typeCode information financialCard debtorAccount creditorAccount institution unknown : Part
+  deriving Discrete as Part-discrete
 
 -- their names; any other is unmapped
 unfoldable pub parts : List (String × Part)

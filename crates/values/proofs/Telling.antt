@@ -1,0 +1,57 @@
+-- Laws of entries that are said one after another.
+use mathlib.Core.Path.{_≡_, refl, sym, ap, _∙_}
+use mathlib.Core.List.{List, [], _∷_, _++_}
+use mathlib.Core.Option.{Option}
+use Prim.Native.Nat.{ℕ}
+use lib.IntN.{ℤ, pos}
+use Rattle.report.specs.Rows.{Place, Entry}
+use Rattle.report.specs.Encoding.{entryRow}
+use Rattle.report.specs.Placed.{Placed}
+use Rattle.report.proofs.Cells.{as-row}
+use Rattle.report.proofs.Placing.{placed-none, placed-then}
+use Rattle.settlement.specs.Document.{or}
+use Rattle.settlement.specs.Values.{Says}
+use Rattle.values.specs.Told.{entryRows, Said, Told}
+
+append-nil : {A : Type 0} (l : List A) → l ++ [] ≡ l
+append-nil [] = refl
+append-nil (a ∷ l) = ap (λ (m : List _). a ∷ m) (append-nil l)
+
+append-append : {A : Type 0} (l m n : List A) → (l ++ m) ++ n ≡ l ++ (m ++ n)
+append-append [] m n = refl
+append-append (a ∷ l) m n = ap (λ (k : List _). a ∷ k) (append-append l m n)
+
+rows-append : (es fs : List (Entry Place)) → entryRows es ++ entryRows fs ≡ entryRows (es ++ fs)
+unfolding entryRows
+rows-append [] fs = refl
+rows-append (e ∷ es) fs = append-append (entryRow e) (entryRows es) (entryRows fs) ∙ ap (λ (k : List ℤ). entryRow e ++ k) (rows-append es fs)
+
+-- one entry's row
+pub said-one : {e : Entry Place} {l l′ : List ℤ} {at r : ℕ} → Placed l at (entryRow e) l′ r → Said (e ∷ []) l at l′ r
+unfolding entryRows
+said-one {e} {l} {l′} {at} p = record { rows = as-row l at (sym (append-nil (entryRow e))) p }
+
+-- nothing is said
+pub said-none : (l : List ℤ) (at : ℕ) → Said [] l at l at
+unfolding entryRows
+said-none l at = record { rows = placed-none l at }
+
+-- one after the other
+pub said-then : {es fs : List (Entry Place)} {l l′ l″ : List ℤ} {at a b : ℕ} → Said es l at l′ a → Said fs l′ a l″ b → Said (es ++ fs) l at l″ b
+said-then {es} {fs} {l} {l′} {l″} {at} p q = record { rows = as-row l at (rows-append es fs) (placed-then (p .rows) (q .rows)) }
+
+-- a value of which there is nothing to say
+pub told-silent : {A : Type 0} {v : A} (l : List ℤ) (at : ℕ) → Told (v, []) l at v l at
+told-silent l at = record { same = refl; said = said-none l at }
+
+-- what a function did by another's definition
+pub told-as : {A : Type 0} {s t : Says Place A} {l l′ : List ℤ} {at r : ℕ} {v : A} → Told s l at v l′ r → s ≡ t → Told t l at v l′ r
+told-as p e = rw e at p
+
+-- a value with what was said
+pub told-said : {A : Type 0} {v : A} {es : List (Entry Place)} {l l′ : List ℤ} {at r : ℕ} → Said es l at l′ r → Told (v, es) l at v l′ r
+told-said p = record { same = refl; said = p }
+
+-- a required amount: 0 where it failed
+pub told-or-zero : {s : Says Place (Option ℤ)} {l l′ : List ℤ} {at r : ℕ} {v : Option ℤ} {z : ℤ} → Told s l at v l′ r → z ≡ or (pos 0) v → Told (or (pos 0) (s .0), s .1) l at z l′ r
+told-or-zero p e = record { same = e ∙ ap (or (pos 0)) (p .same); said = p .said }

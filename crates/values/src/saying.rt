@@ -1,0 +1,70 @@
+// Saying an entry: where it is made, and what it is about.
+ghost use mathlib.Core.List.{_∷_, []};
+ghost use mathlib.Core.Option.{some};
+ghost use Rattle.report.specs.Values.{textOf};
+ghost use Rattle.settlement.specs.Values as reading;
+ghost use Rattle.element.specs.LinkDoc.{linkDoc};
+ghost use Rattle.values.specs.Sites.{siteOf};
+ghost use Rattle.values.specs.Told.{Said};
+use codes::Rule;
+use names::Message;
+use names::Path;
+use names::Term;
+use report::Entry;
+use report::Index;
+use report::Text;
+
+// Where an entry is made: the element's path, the term, and the index of its group.
+pub struct Site {
+    pub path: Path,
+    pub term: Term,
+    pub index: Index,
+}
+
+// Says a message at a site about a value.
+pub fn say(entries: &mut [i64], at: usize, message: Message, site: Site, value: Text) -> usize
+    ensures { λ r. ⌜ Said (reading.entry message (siteOf site) (textOf value) ∷ []) (now (entries .entry)) at (now (entries .exit)) r ⌝ }
+{
+    let path = site.path;
+    let term = site.term;
+    let index = site.index;
+    report::put_entry(
+        entries,
+        at,
+        Entry {
+            message,
+            path,
+            term,
+            index,
+            value,
+        },
+    )
+}
+
+// Says that a required term is missing, where its rule is in force.
+pub fn missing(entries: &mut [i64], at: usize, rules: u32, rule: Rule, site: Site) -> usize
+    ensures { λ r. ⌜ Said (reading.missing rules rule (siteOf site)) (now (entries .entry)) at (now (entries .exit)) r ⌝ }
+{
+    if codes::is_in_force(rules, rule) {
+        return say(entries, at, Message::Missing, site, Text::Absent);
+    }
+    at
+}
+
+// Says a message about the text of element e, as the mode trims it.
+pub(crate) fn say_of(
+    table: &[u32],
+    text: &[u8],
+    links: &[u16],
+    mode: u32,
+    entries: &mut [i64],
+    at: usize,
+    message: Message,
+    site: Site,
+    e: usize,
+) -> usize
+    ensures { λ r. ⌜ Said (reading.entry message (siteOf site) (some (reading.ownText (linkDoc (now (table .entry)) (now (text .entry)) (now (links .entry))) mode e)) ∷ []) (now (entries .entry)) at (now (entries .exit)) r ⌝ }
+{
+    let own = element::own_text(table, text, links, mode, e);
+    say(entries, at, message, site, Text::At(own))
+}
