@@ -14,9 +14,10 @@ use Rattle.report.specs.Rows.{Place, Unmapped}
 use Rattle.settlement.specs.Document.{Doc}
 use Rattle.settlement.specs.Settlement.{unmappedKey, unmappedOrder}
 use Rattle.settlement.specs.Sorted.{Ascending}
-use Rattle.settlement.specs.TableDoc.{shows}
+use Rattle.settlement.specs.TableDoc.{shows, tableDoc}
 use Rattle.settlement.specs.Walk.{placed, insert}
 use Rattle.settlement.proofs.UnmappedSet.{insert-ascending}
+use Rattle.element.specs.LinkDoc.{linkDoc}
 use Rattle.unmapped.specs.declared.search.Spot.{Spot}
 use Rattle.unmapped.specs.Row.{elementKey, elementOrder, standing}
 use Rattle.unmapped.specs.Search.{sought}
@@ -29,6 +30,14 @@ use Rattle.unmapped.proofs.RowsBack.{back-key, back-inserted}
 pub same-order : {N : Type 0} (D : Doc N Place) (x : List ℕ) → D .bytes ≡ shows x → unmappedOrder D ≡ elementOrder x
 unfolding unmappedOrder unmappedKey elementOrder elementKey
 same-order D x e = rw e
+
+-- so for a table, and for one whose records are linked
+pub table-order : (t x : List ℕ) → unmappedOrder (tableDoc t x) ≡ elementOrder x
+unfolding tableDoc
+table-order t x = same-order (tableDoc t x) x refl
+
+pub link-order : (t x l : List ℕ) → unmappedOrder (linkDoc t x l) ≡ elementOrder x
+link-order t x l = same-order (linkDoc t x l) x refl
 
 module _ (x : List ℕ) where
   key-turned : (a b : Unmapped Place) → elementOrder x b a ≡ opposite (elementOrder x a b)
