@@ -50,16 +50,15 @@ module _ {A : Type 0} where
   put-at (v ∷ vs) l at (suc i) d h k =
       rw (put-first, add-suc, ← suc-add) (put-at vs (set l at v) (suc at) i d (omega arith) (rw length-set (omega arith)))
 
--- a row's end is put again, by another of the same length
+-- a row's end is put again, by another that is as long
 module _ {A : Type 0} where
-  set-put : (os l : List A) (i k : ℕ) (v : A) → i < k → set (put l k os) i v ≡ put (set l i v) k os
+  pub set-put : (os l : List A) (i k : ℕ) (v : A) → i < k → set (put l k os) i v ≡ put (set l i v) k os
   set-put [] l i k v h = rw (put-none l k, put-none (set l i v) k)
   set-put (o ∷ os) l i k v h =
       rw (put-first l k o os, put-first (set l i v) k o os) (set-put os (set l k o) i (suc k) v (omega arith) ∙ ap (λ (m : List A). put m (suc k) os) (set-comm l k i o v (λ e. omega arith)))
 
-  put-again : (os ns l : List A) (k : ℕ) → length os ≡ length ns → put (put l k os) k ns ≡ put l k ns
-  put-again [] [] l k e = ap (λ (m : List A). put m k []) (put-none l k)
-  put-again [] (n ∷ ns) l k e = absurd (omega arith)
+  pub put-again : (os ns l : List A) (k : ℕ) → length os ≤ length ns → put (put l k os) k ns ≡ put l k ns
+  put-again [] ns l k e = ap (λ (m : List A). put m k ns) (put-none l k)
   put-again (o ∷ os) [] l k e = absurd (omega arith)
   put-again (o ∷ os) (n ∷ ns) l k e =
       ap (λ (m : List A). put m k (n ∷ ns)) (put-first l k o os)
@@ -69,7 +68,7 @@ module _ {A : Type 0} where
       ∙ sym (put-first l k n ns)
 
   pub put-over : (l : List A) (at : ℕ) (vs os ns : List A) → length os ≡ length ns → put (put l at (vs ++ os)) (at + length vs) ns ≡ put l at (vs ++ ns)
-  put-over l at vs os ns e = rw (← put-put vs l os at, ← put-put vs l ns at) (put-again os ns (put l at vs) (at + length vs) e)
+  put-over l at vs os ns e = rw (← put-put vs l os at, ← put-put vs l ns at) (put-again os ns (put l at vs) (at + length vs) (omega arith))
 
 -- the loop that puts a row, at its number i: a turn, and the end
 module _ {A : Type 0} (l : List A) (at : ℕ) (vs : List A) where

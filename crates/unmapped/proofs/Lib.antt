@@ -1,0 +1,7 @@
+pub mod Cases
+pub mod Halving
+pub mod Moves
+pub mod Notes
+pub mod Places
+pub mod Reading
+pub mod RowsBack
