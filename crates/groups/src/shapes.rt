@@ -1,4 +1,7 @@
 // What the groups hold.
+use codes::Rule;
+use names::Path;
+use names::Term;
 use report::Day;
 use report::Place;
 use report::Text;
@@ -33,4 +36,28 @@ pub struct Payee {
     pub name: Text,
     pub identifier: MaybeIdentifier,
     pub legal: MaybeIdentifier,
+}
+
+// BT-8, a code of UNTDID 2005, that may be absent.
+pub enum PointCode {
+    Absent,
+    Of(u32),
+}
+
+// BT-7, BT-8, and the first code as it was written.
+pub struct VatState {
+    pub point: Day,
+    pub code: PointCode,
+    pub first: Text,
+}
+
+// Where a VAT category and its rate are said: the paths of its type code, its group and its rate, its
+// terms, and the rule that requires it.
+pub struct Category {
+    pub code: Path,
+    pub whole: Path,
+    pub share: Path,
+    pub category: Term,
+    pub rate: Term,
+    pub rule: Rule,
 }

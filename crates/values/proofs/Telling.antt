@@ -4,6 +4,8 @@ use mathlib.Core.List.{List, [], _∷_, _++_}
 use mathlib.Core.Option.{Option}
 use Prim.Native.Nat.{ℕ}
 use lib.IntN.{ℤ, pos}
+use lib.ListN.{length}
+use Rattle.names.proofs.Puts.{length-put}
 use Rattle.report.specs.Rows.{Place, Entry}
 use Rattle.report.specs.Encoding.{entryRow}
 use Rattle.report.specs.Placed.{Placed}
@@ -59,3 +61,7 @@ told-or-zero p e = record { same = e ∙ ap (or (pos 0)) (p .same); said = p .sa
 -- one entry first
 pub told-after : {A : Type 0} {e : Entry Place} {s : Says Place A} {l l′ l″ : List ℤ} {at a b : ℕ} {v : A} → Said (e ∷ []) l at l′ a → Told s l′ a v l″ b → Told (s .0, e ∷ s .1) l at v l″ b
 told-after p q = record { same = q .same; said = said-then p (q .said) }
+
+-- the list keeps its length
+pub said-length : {es : List (Entry Place)} {l l′ : List ℤ} {at r : ℕ} → Said es l at l′ r → length l′ ≡ length l
+said-length {es} {l} {l′} {at} p = ap length (p .rows .now) ∙ length-put l at (entryRows es)
