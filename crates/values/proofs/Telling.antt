@@ -19,7 +19,7 @@ append-nil : {A : Type 0} (l : List A) → l ++ [] ≡ l
 append-nil [] = refl
 append-nil (a ∷ l) = ap (λ (m : List _). a ∷ m) (append-nil l)
 
-append-append : {A : Type 0} (l m n : List A) → (l ++ m) ++ n ≡ l ++ (m ++ n)
+pub append-append : {A : Type 0} (l m n : List A) → (l ++ m) ++ n ≡ l ++ (m ++ n)
 append-append [] m n = refl
 append-append (a ∷ l) m n = ap (λ (k : List _). a ∷ k) (append-append l m n)
 
