@@ -1,8 +1,8 @@
 -- What the code's groups are, against the definitions of the reading.
-use mathlib.Core.Path.{_≡_, refl, sym, ap, _∙_}
-use mathlib.Core.List.{List, [], _∷_, _++_}
+use mathlib.Core.Path.{_≡_, refl}
+use mathlib.Core.List.{[], _∷_}
 use Prim.Native.Nat.{ℕ, suc}
-use Rattle.report.specs.Rows.{Place, Entry, vat, preceding}
+use Rattle.report.specs.Rows.{Place, vat, preceding}
 use Rattle.settlement.specs.Document.{Doc}
 use Rattle.settlement.specs.Shapes.{VatState}
 use Rattle.settlement.specs.Values.{Lent}

@@ -1,19 +1,16 @@
 -- Laws of what a call answers in numbers.
-use mathlib.Core.Path.{_≡_, refl, sym, ap, _∙_}
-use mathlib.Core.List.{List, [], _∷_, _++_}
-use mathlib.Core.Option.{none, some}
-use Prim.Native.Nat.{ℕ, suc, _+_, _*_}
+use mathlib.Core.Path.{_≡_, refl, _∙_}
+use mathlib.Core.List.{List, [], _∷_}
+use Prim.Native.Nat.{ℕ, _*_}
 use native.Mathlib.Omega.{arith}
 use native.Mathlib.Nat.{mul-suc}
 use lib.IntN.{ℤ, pos}
 use lib.ListN.{length, length-append}
-use Rattle.report.specs.Rows.{Place}
 use Rattle.report.specs.Encoding.{absent, heldWidth, entryWidth, unmappedWidth}
 use Rattle.report.proofs.Widths.{held-width, entry-width, unmapped-width}
-use Rattle.settlement.specs.Shapes.{Identifier, Payee, Means, unset, card, debit, transfers, Terms}
 use Rattle.settlement.specs.Settlement.{termsOf, debitOf, debited}
 use Rattle.settlement.specs.Outcome.{Outcome, refused, read}
-use Rattle.settlement.specs.Result.{termsRow, identifierCells, payeeCells, periodCells, meansCells, blankTerms, rowsOf, resultOf}
+use Rattle.settlement.specs.Result.{termsRow, blankTerms, rowsOf, resultOf}
 
 -- rows of one width have so many numbers
 rows-length : {A : Type 0} (w : ℕ) (row : A → List ℤ) → ((a : A) → length (row a) ≡ w) → (l : List A) → w * length l ≡ length (rowsOf row l)
