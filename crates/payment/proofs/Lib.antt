@@ -1,0 +1,3 @@
+pub mod Naming
+pub mod Walking
+pub mod Transfers

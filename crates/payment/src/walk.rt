@@ -1,0 +1,1 @@
+// The walk over the children of a payment means.
