@@ -1,20 +1,17 @@
 -- What an account and a provider make of a walk, case by case.
-use mathlib.Core.Path.{_≡_, refl, sym, ap, _∙_}
+use mathlib.Core.Path.{_≡_}
 use mathlib.Core.Bool.{true, false}
-use mathlib.Core.List.{List, [], _∷_, _++_, append-nil}
-use mathlib.Core.Option.{Option, none, some}
+use mathlib.Core.List.{[], _∷_}
+use mathlib.Core.Option.{Option}
 use Prim.Native.Nat.{ℕ}
 use Rattle.text.specs.Utf8.{bytes}
-use Rattle.names.specs.declared.message.Message.the-variants as Message
-use Rattle.names.specs.declared.path.Path.the-variants as Path
-use Rattle.names.specs.declared.term.Term.the-variants as Term
 use Rattle.report.specs.Rows.{Place, Transfer}
-use Rattle.report.specs.Values.{textOf, transferOf}
+use Rattle.report.specs.Values.{textOf}
 use Rattle.report.specs.declared.value.Text.{Text}
 use Rattle.report.specs.declared.held.Transfer as CodeTransfer
 use Rattle.settlement.specs.Document.{Doc}
-use Rattle.settlement.specs.Values.{entry, site, kidText}
-use Rattle.settlement.specs.Payments.{Paying, creditorAccount, institution, notHeld, accountOf, joined, lost, creditor, provided, providerOf, part}
+use Rattle.settlement.specs.Values.{kidText}
+use Rattle.settlement.specs.Payments.{Paying, creditorAccount, institution, joined, lost, creditor, provided, providerOf, part}
 use Rattle.payment.specs.Walks.{meansOf, waits, waitingRows}
 use Rattle.payment.specs.declared.paying.PaymentCard.{PaymentCard}
 use Rattle.payment.specs.declared.paying.Means as CodeMeans

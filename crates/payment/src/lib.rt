@@ -15,3 +15,5 @@ mod walk;
 pub use paying::Means;
 pub use paying::Payment;
 pub use paying::PaymentCard;
+pub use walk::PaymentSaid;
+pub use walk::payment_means;
