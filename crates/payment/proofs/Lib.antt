@@ -1,0 +1,5 @@
+pub mod Naming
+pub mod Ahead
+pub mod Walking
+pub mod Transfers
+pub mod Reaching

@@ -1,0 +1,65 @@
+-- The loop over the children of a payment means, and its end.
+use mathlib.Core.Path.{_≡_, refl}
+use mathlib.Core.Logic.{_≢_}
+use mathlib.Core.List.{List, map, foldl}
+use Prim.Native.Nat.{ℕ, _-_, _/_, _≤_, _<_}
+use lib.IntN.{ℤ}
+use lib.ListN.{length}
+use Rattle.table.specs.Links.{link, chain, linked}
+use Rattle.table.proofs.Chains.{fold-start, fold-turn, fold-zero, fold-out}
+use Rattle.report.specs.Rows.{Place, transfer}
+use Rattle.report.specs.Placed.{Placed}
+use Rattle.settlement.specs.Document.{Doc}
+use Rattle.settlement.specs.Shapes.{Payment}
+use Rattle.settlement.specs.Payments.{Paying, paying, payingStart, paid, paymentMeansOf}
+use Rattle.element.specs.LinkDoc.{linkDoc}
+use Rattle.payment.specs.Acted.{heldRows, Acted}
+use Rattle.payment.specs.Walks.{paymentOf, waitingRows, payingOf}
+use Rattle.payment.specs.Walked.{Walked}
+use Rattle.payment.specs.declared.paying.Walk as Code
+use Rattle.payment.proofs.Walking.{walked-still, walked-as, walked-then, held-then}
+
+-- at child c with `left` steps to go: the children so far made `so`, and the rest of the chain makes of it what all children make
+pub record Reached (t x l : List ℕ) (n : ℕ) (w₀ : Code.Walk) (h₀ e₀ u₀ : List ℤ) (left c : ℕ) (w : Code.Walk) (h e u : List ℤ) : Type 0 where
+  pub so : Paying Place
+  pub rest : foldl (paying (linkDoc t x l)) (payingOf w₀) (linked l 0 n) ≡ foldl (paying (linkDoc t x l)) so (chain l left c)
+  pub walked : Walked so w₀ w x h₀ h e₀ e u₀ u
+
+module _ (t x l : List ℕ) (n : ℕ) (w₀ : Code.Walk) (h₀ e₀ u₀ : List ℤ) where
+  pub reached-start : (c : ℕ) → c ≡ link l n 0 → Reached t x l n w₀ h₀ e₀ u₀ (length l / 3) c w₀ h₀ e₀ u₀
+  reached-start c e = record { so = payingOf w₀; rest = fold-start (paying (linkDoc t x l)) l 0 n c (payingOf w₀) e; walked = walked-still refl refl refl refl x h₀ e₀ u₀ }
+
+  module _ {left c : ℕ} {w : Code.Walk} {h e u : List ℤ} (k : Reached t x l n w₀ h₀ e₀ u₀ left c w h e u) where
+    pub reached-turn :
+        0 < left →
+        c ≢ 0 →
+        {r : Code.Walk} {h′ e′ u′ : List ℤ} →
+        Walked (paying (linkDoc t x l) (payingOf w) c) w r x h h′ e e′ u u′ →
+        (d : ℕ) →
+        d ≡ link l c 2 →
+        Reached t x l n w₀ h₀ e₀ u₀ (left - 1) d r h′ e′ u′
+    reached-turn f z m d q =
+        record {
+          so = paying (linkDoc t x l) (k .so) c;
+          rest = fold-turn (paying (linkDoc t x l)) l _ (k .so) left c (k .rest) f z (paying (linkDoc t x l) (k .so) c) refl d q;
+          walked = walked-then (linkDoc t x l) c (k .walked) m;
+        }
+
+    pub reached-zero : c ≡ 0 → Walked (foldl (paying (linkDoc t x l)) (payingOf w₀) (linked l 0 n)) w₀ w x h₀ h e₀ e u₀ u
+    reached-zero z = walked-as (k .walked) (fold-zero (paying (linkDoc t x l)) l _ (k .so) left c (k .rest) z)
+
+    pub reached-out : left ≤ 0 → Walked (foldl (paying (linkDoc t x l)) (payingOf w₀) (linked l 0 n)) w₀ w x h₀ h e₀ e u₀ u
+    reached-out z = walked-as (k .walked) (fold-out (paying (linkDoc t x l)) l _ (k .so) left c (k .rest) z)
+
+-- the account that still waits is put
+pub acted :
+    (D : Doc ℕ Place) (p : Payment Place) (n : ℕ) {w₀ w : Code.Walk} {x : List ℕ} {h₀ h h′ e₀ e u₀ u : List ℤ} {r : ℕ} →
+    payingOf w₀ ≡ payingStart p →
+    Walked (foldl (paying D) (payingOf w₀) (D .kids n)) w₀ w x h₀ h e₀ e u₀ u →
+    Placed h (w .«held_at») (heldRows (map transfer (waitingRows (w .waiting)))) h′ r →
+    Acted (paymentMeansOf D p n) x (paymentOf (w .payment)) h₀ (w₀ .«held_at») h′ r e₀ (w₀ .at) e (w .at) u₀ (w₀ .count) u (w .count)
+unfolding paymentMeansOf paid
+acted D p n {w₀} {w} {x} {h₀} {h} {h′} {e₀} {e} {u₀} {u} {r} s k b = go (rw s at k)
+  where
+    go : Walked (foldl (paying D) (payingStart p) (D .kids n)) w₀ w x h₀ h e₀ e u₀ u → Acted (paymentMeansOf D p n) x (paymentOf (w .payment)) h₀ (w₀ .«held_at») h′ r e₀ (w₀ .at) e (w .at) u₀ (w₀ .count) u (w .count)
+    go k = record { same = k .payment; held = rw (k .whole) (held-then (k .rows) (waitingRows (w .waiting)) (k .held) b); said = k .said; noted = k .noted }

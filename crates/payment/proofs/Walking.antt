@@ -1,0 +1,181 @@
+-- Laws of the walk over the children of a payment means.
+use mathlib.Core.Path.{_≡_, refl, sym, ap, _∙_, subst}
+use mathlib.Core.List.{List, [], _∷_, _++_, map, foldl, append-nil, append-assoc, map-append, foldl-append}
+use Prim.Native.Nat.{ℕ}
+use lib.IntN.{ℤ}
+use Rattle.report.specs.Rows.{Place, Entry, Transfer, Held, transfer, Unmapped}
+use Rattle.report.specs.Encoding.{heldRow}
+use Rattle.report.specs.Placed.{Placed}
+use Rattle.report.proofs.Cells.{as-row}
+use Rattle.report.proofs.Placing.{placed-none, placed-then}
+use Rattle.names.specs.declared.message.Message.{Message}
+use Rattle.names.specs.declared.path.Path.{Path}
+use Rattle.settlement.specs.Document.{Doc}
+use Rattle.settlement.specs.Shapes.{Means}
+use Rattle.settlement.specs.Payments.{Paying, paying, notHeld, withMeans, firstMeans}
+use Rattle.values.specs.Told.{Said}
+use Rattle.values.proofs.Telling.{said-none, said-then}
+use Rattle.unmapped.specs.Noting.{Rows, noting, Noted}
+use Rattle.payment.specs.Acted.{heldRows, notingOne, notingAll}
+use Rattle.payment.specs.Walks.{meansOf, paymentOf, waits, waitingRows, payingOf}
+use Rattle.payment.specs.Walked.{Walked}
+use Rattle.payment.proofs.Ahead.{ahead, paying-ahead}
+use Rattle.payment.specs.declared.paying.PaymentCard.{PaymentCard}
+use Rattle.payment.specs.declared.paying.Means as CodeMeans
+use Rattle.payment.specs.declared.paying.Means.the-variants.{Unset, Card, Debit, Transfers}
+use Rattle.payment.specs.declared.paying.Walk as Code
+use Rattle.report.specs.declared.value.Text.{Text}
+
+-- nothing was noted
+pub noted-none : (x : List ℕ) (l : List ℤ) (n : ℕ) → Noted (notingAll x l n []) l n
+unfolding notingAll
+noted-none x l n = record { list = refl; count = refl }
+
+-- no row was put
+pub no-rows : (l : List ℤ) (at : ℕ) → Placed l at (heldRows (map transfer [])) l at
+unfolding heldRows
+no-rows l at = placed-none l at
+
+-- one was put
+pub one-row : (t : Transfer Place) {l l′ : List ℤ} {at r : ℕ} → Placed l at (heldRow (transfer t)) l′ r → Placed l at (heldRows (map transfer (t ∷ []))) l′ r
+unfolding heldRows
+one-row t {l} {l′} {at} p = as-row l at (sym (append-nil (heldRow (transfer t)))) p
+
+-- a walk, and what was put and said on the way to it
+abbrev pub spoken : List (Transfer Place) → List (Entry Place) → Code.Walk → Paying Place
+spoken ts es r = record { payment = paymentOf (r .payment); last = waits (r .waiting); rows = ts ++ waitingRows (r .waiting); says = es; strays = [] }
+
+-- rows were put, and entries said
+walked-put :
+    (ts : List (Transfer Place)) {es : List (Entry Place)} {s : Paying Place} {w r : Code.Walk} {h h′ e e′ : List ℤ} →
+    r .count ≡ w .count →
+    spoken ts es r ≡ s →
+    Placed h (w .«held_at») (heldRows (map transfer ts)) h′ (r .«held_at») →
+    Said es e (w .at) e′ (r .at) →
+    (x : List ℕ) (u : List ℤ) →
+    Walked s w r x h h′ e e′ u u
+walked-put ts {es} {s} {w} {r} q k b a x u =
+    rw (← k) (record { payment = refl; last = refl; rows = ts; whole = refl; held = b; said = a; noted = rw q (noted-none x u (w .count)) })
+
+-- the account that waited was put
+pub walked-on :
+    {es : List (Entry Place)} {s : Paying Place} {w r : Code.Walk} {h h′ e e′ : List ℤ} →
+    r .count ≡ w .count →
+    Placed h (w .«held_at») (heldRows (map transfer (waitingRows (w .waiting)))) h′ (r .«held_at») →
+    Said es e (w .at) e′ (r .at) →
+    spoken (waitingRows (w .waiting)) es r ≡ s →
+    (x : List ℕ) (u : List ℤ) →
+    Walked s w r x h h′ e e′ u u
+walked-on {es} {s} {w} q b a k x u = walked-put (waitingRows (w .waiting)) q k b a x u
+
+-- entries were said
+pub walked-said :
+    {es : List (Entry Place)} {s : Paying Place} {w r : Code.Walk} {e e′ : List ℤ} →
+    r .«held_at» ≡ w .«held_at» →
+    r .count ≡ w .count →
+    spoken [] es r ≡ s →
+    Said es e (w .at) e′ (r .at) →
+    (x : List ℕ) (h u : List ℤ) →
+    Walked s w r x h h e e′ u u
+walked-said {es} {s} {w} {r} p q k a x h u = walked-put [] q k (rw p (no-rows h (w .«held_at»))) a x u
+
+-- nothing was done
+pub walked-still :
+    {s : Paying Place} {w r : Code.Walk} →
+    r .«held_at» ≡ w .«held_at» →
+    r .at ≡ w .at →
+    r .count ≡ w .count →
+    payingOf r ≡ s →
+    (x : List ℕ) (h e u : List ℤ) →
+    Walked s w r x h h e e u u
+walked-still {s} {w} {r} p q k a x h e u = walked-said p k a (rw q (said-none e (w .at))) x h u
+
+-- an unmapped element was noted
+pub walked-noted :
+    {v : Unmapped Place} {s : Paying Place} {w r : Code.Walk} {x : List ℕ} {u u′ : List ℤ} →
+    r .«held_at» ≡ w .«held_at» →
+    r .at ≡ w .at →
+    record { payment = paymentOf (r .payment); last = waits (r .waiting); rows = waitingRows (r .waiting); says = []; strays = v ∷ [] } ≡ s →
+    Noted (noting x u (w .count) v) u′ (r .count) →
+    (h e : List ℤ) →
+    Walked s w r x h h e e u u′
+unfolding notingAll notingOne
+walked-noted {v} {s} {w} {r} p q k a h e =
+    rw (← k)
+    (record {
+      payment = refl;
+      last = refl;
+      rows = [];
+      whole = refl;
+      held = rw p (no-rows h (w .«held_at»));
+      said = rw q (said-none e (w .at));
+      noted = a;
+    })
+
+-- by another's definition
+pub walked-as : {s t : Paying Place} {w r : Code.Walk} {x : List ℕ} {h h′ e e′ u u′ : List ℤ} → Walked s w r x h h′ e e′ u u′ → s ≡ t → Walked t w r x h h′ e e′ u u′
+walked-as k e = rw e at k
+
+-- the first means, and those beside another kind
+module _ (m : Message) (p : Path) (new : Means Place) (s : Paying Place) {k : CodeMeans.Means} where
+  pub first-unset : k ≡ Unset → withMeans new s ≡ firstMeans (meansOf k) m p new s
+  unfolding firstMeans
+  first-unset e = rw e
+
+  pub beside-card : {a : PaymentCard} → k ≡ Card a → notHeld m p s ≡ firstMeans (meansOf k) m p new s
+  unfolding firstMeans
+  beside-card e = rw e
+
+  pub beside-debit : {a : Text} → k ≡ Debit a → notHeld m p s ≡ firstMeans (meansOf k) m p new s
+  unfolding firstMeans
+  beside-debit e = rw e
+
+  pub beside-transfers : k ≡ Transfers → notHeld m p s ≡ firstMeans (meansOf k) m p new s
+  unfolding firstMeans
+  beside-transfers e = rw e
+
+-- rows and unmapped elements, one list behind the other
+rows-append : (hs gs : List (Held Place)) → heldRows hs ++ heldRows gs ≡ heldRows (hs ++ gs)
+unfolding heldRows
+rows-append [] gs = refl
+rows-append (h ∷ hs) gs = append-assoc (heldRow h) (heldRows hs) (heldRows gs) ∙ ap (λ (l : List ℤ). heldRow h ++ l) (rows-append hs gs)
+
+pub held-then :
+    {l l′ l″ : List ℤ} {at a b : ℕ} (ts us : List (Transfer Place)) →
+    Placed l at (heldRows (map transfer ts)) l′ a →
+    Placed l′ a (heldRows (map transfer us)) l″ b →
+    Placed l at (heldRows (map transfer (ts ++ us))) l″ b
+held-then {l} {l′} {l″} {at} ts us p q = as-row l at (rows-append (map transfer ts) (map transfer us) ∙ ap heldRows (sym (map-append transfer ts us))) (placed-then p q)
+
+noted-then :
+    (x : List ℕ) (l : List ℤ) {l′ l″ : List ℤ} (n : ℕ) {n′ n″ : ℕ} (us vs : List (Unmapped Place)) →
+    Noted (notingAll x l n us) l′ n′ →
+    Noted (notingAll x l′ n′ vs) l″ n″ →
+    Noted (notingAll x l n (us ++ vs)) l″ n″
+unfolding notingAll
+noted-then x l {l′} {l″} n {n′} {n″} us vs p q =
+    let e : record { list = l′; count = n′ } ≡ notingAll x l n us = rw (p .list, p .count) in
+    subst (λ (r : Rows). Noted r l″ n″) (ap (λ (r : Rows). foldl (notingOne x) r vs) e ∙ sym (foldl-append (notingOne x) (record { list = l; count = n }) us vs)) q
+
+-- one child more
+pub walked-then :
+    (D : Doc ℕ Place) (c : ℕ) {s : Paying Place} {w₀ w r : Code.Walk} {x : List ℕ} {h₀ h h′ e₀ e e′ u₀ u u′ : List ℤ} →
+    Walked s w₀ w x h₀ h e₀ e u₀ u →
+    Walked (paying D (payingOf w) c) w r x h h′ e e′ u u′ →
+    Walked (paying D s c) w₀ r x h₀ h′ e₀ e′ u₀ u′
+walked-then D c {s} {w₀} {w} {r} {x} {h₀} {h} {h′} {e₀} {e} {e′} {u₀} {u} {u′} k m = walked-as further (sym (paying-ahead (k .rows) (s .says) (s .strays) D c w) ∙ ap (λ (a : Paying Place). paying D a c) whole)
+  where
+    whole : ahead (k .rows) (s .says) (s .strays) (payingOf w) ≡ s
+    whole = rw (k .payment, k .last, ← k .whole, append-nil (s .says), append-nil (s .strays))
+
+    further : Walked (ahead (k .rows) (s .says) (s .strays) (paying D (payingOf w) c)) w₀ r x h₀ h′ e₀ e′ u₀ u′
+    further =
+        record {
+          payment = m .payment;
+          last = m .last;
+          rows = k .rows ++ m .rows;
+          whole = rw (m .whole, append-assoc (k .rows));
+          held = held-then (k .rows) (m .rows) (k .held) (m .held);
+          said = said-then (k .said) (m .said);
+          noted = noted-then x u₀ (w₀ .count) (s .strays) (paying D (payingOf w) c .strays) (k .noted) (m .noted);
+        }

@@ -1,0 +1,4 @@
+pub mod Parts
+pub mod Walks
+pub mod Acted
+pub mod Walked

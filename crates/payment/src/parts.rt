@@ -1,0 +1,49 @@
+// The children of a payment means, by their names.
+ghost use mathlib.Core.Path.{_≡_};
+ghost use Rattle.settlement.specs.Kinds.{meant};
+ghost use Rattle.settlement.specs.Payments.{unknown, parts, partOf};
+ghost use Rattle.element.specs.LinkDoc.{linkDoc};
+ghost use Rattle.payment.specs.Parts.{partIs};
+
+// What a child is.
+pub(crate) enum Part {
+    TypeCode,
+    Information,
+    FinancialCard,
+    DebtorAccount,
+    CreditorAccount,
+    Institution,
+    Unknown,
+}
+
+// What a name stands for.
+fn part_named(name: &[u8]) -> Part
+    ensures { λ r. ⌜ partIs r ≡ meant unknown parts (now (name .entry)) ⌝ }
+{
+    if text::same(name, b"TypeCode") {
+        return Part::TypeCode;
+    }
+    if text::same(name, b"Information") {
+        return Part::Information;
+    }
+    if text::same(name, b"ApplicableTradeSettlementFinancialCard") {
+        return Part::FinancialCard;
+    }
+    if text::same(name, b"PayerPartyDebtorFinancialAccount") {
+        return Part::DebtorAccount;
+    }
+    if text::same(name, b"PayeePartyCreditorFinancialAccount") {
+        return Part::CreditorAccount;
+    }
+    if text::same(name, b"PayeeSpecifiedCreditorFinancialInstitution") {
+        return Part::Institution;
+    }
+    Part::Unknown
+}
+
+// What element c is.
+pub(crate) fn part_of(table: &[u32], text: &[u8], links: &[u16], c: usize) -> Part
+    ensures { λ r. ⌜ partIs r ≡ partOf (linkDoc (now (table .entry)) (now (text .entry)) (now (links .entry))) c ⌝ }
+{
+    part_named(element::shown(text, element::name(table, c)))
+}

@@ -1,0 +1,145 @@
+// The walk over the children of a payment means.
+ghost use mathlib.Core.List.{List, foldl};
+ghost use lib.IntN.{ℤ};
+ghost use Rattle.settlement.specs.Payments.{unknown, part, paying, paymentMeansOf};
+ghost use Rattle.element.specs.LinkDoc.{linkDoc};
+ghost use Rattle.payment.specs.Acted.{Acted};
+ghost use Rattle.payment.specs.Walks.{paymentOf, payingOf};
+ghost use Rattle.payment.specs.Walked.{Walked};
+use crate::accounts::creditor_account;
+use crate::accounts::institution;
+use crate::accounts::put_waiting;
+use crate::instructions::information;
+use crate::instructions::type_code;
+use crate::means::debtor_account;
+use crate::means::financial_card;
+use crate::parts::Part;
+use crate::parts::part_of;
+use crate::paying::Payment;
+use crate::paying::Waiting;
+use crate::paying::Walk;
+use names::Parent;
+use report::Unmapped;
+
+// The payment after a payment means, where the next rows and entries go, and how many unmapped
+// elements there are.
+pub struct PaymentSaid {
+    pub payment: Payment,
+    pub held_at: usize,
+    pub at: usize,
+    pub count: usize,
+}
+
+// A child that is not mapped is noted.
+fn unmapped_part(
+    table: &[u32],
+    text: &[u8],
+    links: &[u16],
+    unmapped: &mut [i64],
+    walk: Walk,
+    c: usize,
+) -> Walk
+    ensures { λ r. ⌜ ((h e : List ℤ) → Walked (part (linkDoc (now (table .entry)) (now (text .entry)) (now (links .entry))) unknown (payingOf walk) c) walk r (now (text .entry)) h h e e (now (unmapped .entry)) (now (unmapped .exit))) ⌝ }
+{
+    let element = Unmapped {
+        parent: Parent::PaymentMeans,
+        name: element::name(table, c),
+    };
+    let mut next = walk;
+    next.count = unmapped::note_unmapped(text, unmapped, walk.count, element);
+    next
+}
+
+// One child more.
+fn read_child(
+    table: &[u32],
+    text: &[u8],
+    links: &[u16],
+    held: &mut [i64],
+    entries: &mut [i64],
+    unmapped: &mut [i64],
+    walk: Walk,
+    c: usize,
+) -> Walk
+    ensures { λ r. ⌜ Walked (paying (linkDoc (now (table .entry)) (now (text .entry)) (now (links .entry))) (payingOf walk) c) walk r (now (text .entry)) (now (held .entry)) (now (held .exit)) (now (entries .entry)) (now (entries .exit)) (now (unmapped .entry)) (now (unmapped .exit)) ⌝ }
+{
+    let part = part_of(table, text, links, c);
+    match part {
+        Part::TypeCode => type_code(table, text, links, walk, c),
+        Part::Information => information(table, text, links, walk, c),
+        Part::FinancialCard => financial_card(table, text, links, entries, walk, c),
+        Part::DebtorAccount => debtor_account(table, text, links, entries, walk, c),
+        Part::CreditorAccount => creditor_account(table, text, links, held, entries, walk, c),
+        Part::Institution => institution(table, text, links, entries, walk, c),
+        Part::Unknown => unmapped_part(table, text, links, unmapped, walk, c),
+    }
+}
+
+// All children of element n, from a walk on.
+fn read_children(
+    table: &[u32],
+    text: &[u8],
+    links: &[u16],
+    held: &mut [i64],
+    entries: &mut [i64],
+    unmapped: &mut [i64],
+    start: Walk,
+    n: usize,
+) -> Walk
+    ensures { λ r. ⌜ Walked (foldl (paying (linkDoc (now (table .entry)) (now (text .entry)) (now (links .entry)))) (payingOf start) (linkDoc (now (table .entry)) (now (text .entry)) (now (links .entry)) .kids n)) start r (now (text .entry)) (now (held .entry)) (now (held .exit)) (now (entries .entry)) (now (entries .exit)) (now (unmapped .entry)) (now (unmapped .exit)) ⌝ }
+{
+    let mut walk = start;
+    let mut c = table::first_of(links, n);
+    let mut left = links.len() / 3;
+    while 0 < left {
+        if c == 0 {
+            return walk;
+        }
+        walk = read_child(table, text, links, held, entries, unmapped, walk, c);
+        c = table::next_of(links, c);
+        left -= 1;
+    }
+    walk
+}
+
+// Fills in the payment so far by the payment means that is element n.
+pub fn payment_means(
+    table: &[u32],
+    text: &[u8],
+    links: &[u16],
+    held: &mut [i64],
+    held_at: usize,
+    entries: &mut [i64],
+    at: usize,
+    unmapped: &mut [i64],
+    count: usize,
+    payment: Payment,
+    n: usize,
+) -> PaymentSaid
+    ensures { λ r. ⌜ Acted (paymentMeansOf (linkDoc (now (table .entry)) (now (text .entry)) (now (links .entry))) (paymentOf payment) n) (now (text .entry)) (paymentOf (r .payment)) (now (held .entry)) «held_at» (now (held .exit)) (r .«held_at») (now (entries .entry)) at (now (entries .exit)) (r .at) (now (unmapped .entry)) count (now (unmapped .exit)) (r .count) ⌝ }
+{
+    let code = payment.code;
+    let words = payment.text;
+    let means = payment.means;
+    let start = Walk {
+        payment: Payment {
+            met: true,
+            code,
+            text: words,
+            means,
+        },
+        waiting: Waiting::Nothing,
+        held_at,
+        at,
+        count,
+    };
+    let walk = read_children(table, text, links, held, entries, unmapped, start, n);
+    let paid = walk.payment;
+    let waiting = walk.waiting;
+    PaymentSaid {
+        payment: paid,
+        held_at: put_waiting(held, walk.held_at, waiting),
+        at: walk.at,
+        count: walk.count,
+    }
+}
