@@ -1,6 +1,6 @@
 -- What the code's groups are, against the definitions of the reading.
 use mathlib.Core.Path.{_≡_, refl}
-use mathlib.Core.List.{[], _∷_}
+use mathlib.Core.List.{[], _∷_, append-assoc}
 use Prim.Native.Nat.{ℕ, suc}
 use Rattle.report.specs.Rows.{Place, vat, preceding}
 use Rattle.settlement.specs.Document.{Doc}
@@ -8,7 +8,6 @@ use Rattle.settlement.specs.Shapes.{VatState}
 use Rattle.settlement.specs.Values.{Lent}
 use Rattle.settlement.specs.Tax.{tradeTaxOf, pointDate, pointCode}
 use Rattle.settlement.specs.Settlement as reading
-use Rattle.values.proofs.Telling.{append-append}
 use Rattle.groups.specs.Groups.{precedingSays}
 use Rattle.groups.specs.Categories.{categorySays}
 use Rattle.groups.specs.Taxes.{pointSays, tradeTaxSays}
@@ -17,7 +16,7 @@ module _ (L : Lent) (D : Doc ℕ Place) (s : VatState Place) (n : ℕ) where
   -- a VAT breakdown says what the definition says
   pub trade-tax-says : tradeTaxSays L D s n .1 ≡ tradeTaxOf L D s n .says
   unfolding tradeTaxSays pointSays categorySays tradeTaxOf
-  trade-tax-says = append-append (pointDate (L .mode) D s n .1) (pointCode D s n .1) _
+  trade-tax-says = append-assoc (pointDate (L .mode) D s n .1) (pointCode D s n .1) _
 
   -- its row is the one that is held
   pub trade-tax-holds : vat (tradeTaxSays L D s n .0 .1) ∷ [] ≡ tradeTaxOf L D s n .holds

@@ -1,6 +1,6 @@
 -- Laws of entries that are said one after another.
 use mathlib.Core.Path.{_≡_, refl, sym, ap, _∙_}
-use mathlib.Core.List.{List, [], _∷_, _++_}
+use mathlib.Core.List.{List, [], _∷_, _++_, append-nil, append-assoc}
 use mathlib.Core.Option.{Option}
 use Prim.Native.Nat.{ℕ}
 use lib.IntN.{ℤ, pos}
@@ -15,18 +15,10 @@ use Rattle.settlement.specs.Document.{or}
 use Rattle.settlement.specs.Values.{Says}
 use Rattle.values.specs.Told.{entryRows, Said, Told}
 
-append-nil : {A : Type 0} (l : List A) → l ++ [] ≡ l
-append-nil [] = refl
-append-nil (a ∷ l) = ap (λ (m : List _). a ∷ m) (append-nil l)
-
-pub append-append : {A : Type 0} (l m n : List A) → (l ++ m) ++ n ≡ l ++ (m ++ n)
-append-append [] m n = refl
-append-append (a ∷ l) m n = ap (λ (k : List _). a ∷ k) (append-append l m n)
-
 rows-append : (es fs : List (Entry Place)) → entryRows es ++ entryRows fs ≡ entryRows (es ++ fs)
 unfolding entryRows
 rows-append [] fs = refl
-rows-append (e ∷ es) fs = append-append (entryRow e) (entryRows es) (entryRows fs) ∙ ap (λ (k : List ℤ). entryRow e ++ k) (rows-append es fs)
+rows-append (e ∷ es) fs = append-assoc (entryRow e) (entryRows es) (entryRows fs) ∙ ap (λ (k : List ℤ). entryRow e ++ k) (rows-append es fs)
 
 -- one entry's row
 pub said-one : {e : Entry Place} {l l′ : List ℤ} {at r : ℕ} → Placed l at (entryRow e) l′ r → Said (e ∷ []) l at l′ r
