@@ -9,19 +9,17 @@ use native.Mathlib.Nat.{add-zero}
 use borrow.Author.Tests.{eq-eqb, ne-eqb, le-leb, lt-leb, eqb-true, leb-true, leb-false}
 use lib.Dec.{eqb, leb}
 use lib.ListN.{length, take, drop, length-drop}
-use lib.Seq.{length-take-le}
 use Rattle.text.specs.Span.{clipped, cut}
 use Rattle.text.specs.declared.span.Span.{Span}
-use Rattle.text.specs.Order.{equal}
 use Rattle.text.specs.Trim.{trimmed, trimOf}
 use Rattle.text.proofs.Trims.{trimmed-in}
 use Rattle.amount.specs.Decimal.{empty}
 use Rattle.table.specs.Table.{cell, nameOf, textOf, named, found, firstOf}
 use Rattle.table.specs.Links.{linked}
 use Rattle.report.specs.Rows.{Place}
-use Rattle.settlement.specs.Document.{Doc, maybe, or}
-use Rattle.settlement.specs.TableDoc.{nameAt, textAt, ownTextAt, shows, docOf}
-use Rattle.settlement.specs.Values.{trimIn, filled, textIn, ownText, textBytes, first, kid, kidText, attribute}
+use Rattle.settlement.specs.Document.{Doc, maybe}
+use Rattle.settlement.specs.TableDoc.{textAt, ownTextAt, shows}
+use Rattle.settlement.specs.Values.{trimIn, filled, textIn, textBytes, first, kid, attribute}
 use Rattle.element.specs.LinkDoc.{linkDoc}
 use Rattle.element.specs.Trimmed.{trimmedAt}
 

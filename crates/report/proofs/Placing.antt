@@ -7,7 +7,7 @@ use native.Mathlib.Omega.{arith}
 use borrow.Author.Tests.{le-leb, lt-leb, leb-true, leb-false}
 use lib.Dec.{leb}
 use lib.IntN.{ℤ}
-use lib.ListN.{length, set, length-append, length-set}
+use lib.ListN.{length, length-append}
 use lib.Seq.{set-out}
 use Rattle.names.specs.Put.{put}
 use Rattle.report.specs.Placed.{behind, Placed}

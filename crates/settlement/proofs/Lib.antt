@@ -24,3 +24,4 @@ pub mod PaymentParts
 pub mod Transfers
 pub mod FirstWins
 pub mod Edges
+pub mod Results

@@ -4,7 +4,6 @@ use mathlib.Core.Bool.{Bool, true, false}
 use mathlib.Core.List.{List, [], _∷_, _++_, foldl, map}
 use mathlib.Core.Option.{Option, none, some, Option·map}
 use Prim.Native.Nat.{ℕ, Ordering, Ordering·lt, Ordering·eq, Ordering·gt}
-use Prim.Native.String.{String}
 use lib.IntN.{ℤ}
 use Rattle.text.specs.Answer.{Answer}
 use Rattle.text.specs.Utf8.{bytes}

@@ -25,7 +25,7 @@ module _ {A : Type 0} (c : A → A → Ordering) (turned : (a b : A) → c b a �
       go Ordering·eq = h
       go Ordering·gt = h
 
-  insert-ascending : (u : A) (l : List A) → Ascending c l → Ascending c (insert c u l)
+  pub insert-ascending : (u : A) (l : List A) → Ascending c l → Ascending c (insert c u l)
   unfolding insert
   insert-ascending u [] h = (tt, tt)
   insert-ascending u (w ∷ l) h = go (c u w) refl (insert-ascending u l (h .1))

@@ -20,3 +20,4 @@ pub mod Inside
 pub mod ChildRows
 pub mod Transfers
 pub mod Edges
+pub mod Result

@@ -3,7 +3,6 @@ use mathlib.Core.Bool.{Bool, true, false, cond}
 use mathlib.Core.List.{List, [], _∷_, _++_}
 use mathlib.Core.Option.{Option, none, some}
 use Prim.Native.Nat.{ℕ, suc}
-use Prim.Native.String.{String}
 use lib.IntN.{ℤ}
 use Rattle.text.specs.Answer.{Answer}
 use Rattle.text.specs.Order.{equal}

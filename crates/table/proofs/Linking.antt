@@ -8,7 +8,7 @@ use native.Mathlib.Omega.{arith}
 use native.Mathlib.Decide.{ℕ-discrete, decLt}
 use borrow.Author.Tests.{ne-eqb, eq-eqb, eqb-true, lt-ltb, ltb-true, le-leb, leb-true}
 use lib.Dec.{ltb, leb, eqb}
-use lib.ListN.{length, getD, set, replicate, length-set, length-replicate, getD-replicate, List·getD-eq-default}
+use lib.ListN.{length, set, replicate, length-set, length-replicate, getD-replicate, List·getD-eq-default}
 use lib.Seq.{getD-set-same, getD-set-other}
 use Rattle.text.proofs.Bools.{both}
 use Rattle.table.specs.Table.{records, cell, kin, below, kids, attrs}

@@ -1,5 +1,5 @@
 -- The cases of noting an element: no room, its parent and name are there, they are not.
-use mathlib.Core.Path.{_≡_, refl, sym, _∙_}
+use mathlib.Core.Path.{_≡_, refl}
 use mathlib.Core.List.{List}
 use Prim.Native.Nat.{ℕ, _/_, _≤_, _<_}
 use borrow.Author.Tests.{le-leb, lt-leb}

@@ -1,7 +1,7 @@
 -- Laws of numbers that move up in a list, and of a row put before them.
-use mathlib.Core.Path.{_≡_, refl, sym, ap, _∙_}
+use mathlib.Core.Path.{_≡_, sym, ap, _∙_}
 use mathlib.Core.List.{List, [], _∷_, _++_}
-use Prim.Native.Nat.{ℕ, zero, suc, _+_, _≤_, _<_}
+use Prim.Native.Nat.{ℕ, suc, _+_, _≤_}
 use native.Mathlib.Nat.{suc-add, add-suc, add-zero}
 use native.Mathlib.Omega.{arith}
 use lib.IntN.{ℤ, pos}

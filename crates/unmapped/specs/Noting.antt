@@ -1,7 +1,7 @@
 -- What noting an unmapped element makes of any list of numbers; `noted` (proofs/Notes.antt) says what that means for rows in order.
 use mathlib.Core.Path.{_≡_}
 use mathlib.Core.Bool.{cond}
-use mathlib.Core.List.{List, _++_}
+use mathlib.Core.List.{List, [], _∷_, _++_}
 use Prim.Native.Nat.{ℕ, _+_, _*_, _/_}
 use lib.Dec.{leb}
 use lib.IntN.{ℤ}
@@ -31,6 +31,11 @@ atSpot (Free k) l count u = inserted l count u k
 -- an element noted; nothing changes where there is no room for one row more
 unfoldable pub noting : List ℕ → List ℤ → ℕ → Unmapped Place → Rows
 noting x l count u = cond (leb (length l / 3) count) (record { list = l; count = count }) (atSpot (sought x l count u) l count u)
+
+-- elements noted one after the other
+unfoldable pub notings : List ℕ → List ℤ → ℕ → List (Unmapped Place) → Rows
+notings x l count [] = record { list = l; count = count }
+notings x l count (u ∷ us) = notings x (noting x l count u .list) (noting x l count u .count) us
 
 -- the list and the count are those
 pub record Noted (rows : Rows) (now : List ℤ) (n : ℕ) : Type 0 where

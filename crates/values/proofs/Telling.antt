@@ -4,6 +4,8 @@ use mathlib.Core.List.{List, [], _∷_, _++_}
 use mathlib.Core.Option.{Option}
 use Prim.Native.Nat.{ℕ}
 use lib.IntN.{ℤ, pos}
+use lib.ListN.{length}
+use Rattle.names.proofs.Puts.{length-put}
 use Rattle.report.specs.Rows.{Place, Entry}
 use Rattle.report.specs.Encoding.{entryRow}
 use Rattle.report.specs.Placed.{Placed}
@@ -17,7 +19,7 @@ append-nil : {A : Type 0} (l : List A) → l ++ [] ≡ l
 append-nil [] = refl
 append-nil (a ∷ l) = ap (λ (m : List _). a ∷ m) (append-nil l)
 
-append-append : {A : Type 0} (l m n : List A) → (l ++ m) ++ n ≡ l ++ (m ++ n)
+pub append-append : {A : Type 0} (l m n : List A) → (l ++ m) ++ n ≡ l ++ (m ++ n)
 append-append [] m n = refl
 append-append (a ∷ l) m n = ap (λ (k : List _). a ∷ k) (append-append l m n)
 
@@ -55,3 +57,11 @@ told-said p = record { same = refl; said = p }
 -- a required amount: 0 where it failed
 pub told-or-zero : {s : Says Place (Option ℤ)} {l l′ : List ℤ} {at r : ℕ} {v : Option ℤ} {z : ℤ} → Told s l at v l′ r → z ≡ or (pos 0) v → Told (or (pos 0) (s .0), s .1) l at z l′ r
 told-or-zero p e = record { same = e ∙ ap (or (pos 0)) (p .same); said = p .said }
+
+-- one entry first
+pub told-after : {A : Type 0} {e : Entry Place} {s : Says Place A} {l l′ l″ : List ℤ} {at a b : ℕ} {v : A} → Said (e ∷ []) l at l′ a → Told s l′ a v l″ b → Told (s .0, e ∷ s .1) l at v l″ b
+told-after p q = record { same = q .same; said = said-then p (q .said) }
+
+-- the list keeps its length
+pub said-length : {es : List (Entry Place)} {l l′ : List ℤ} {at r : ℕ} → Said es l at l′ r → length l′ ≡ length l
+said-length {es} {l} {l′} {at} p = ap length (p .rows .now) ∙ length-put l at (entryRows es)

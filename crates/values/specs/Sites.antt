@@ -1,4 +1,5 @@
 -- What the code's values mean.
+use mathlib.Core.Bool.{Bool, cond}
 use mathlib.Core.List.{List, []}
 use mathlib.Core.Option.{Option, none, some}
 use Prim.Native.Nat.{ℕ}
@@ -8,7 +9,10 @@ use Rattle.report.specs.Rows.{Place}
 use Rattle.report.specs.Values.{indexOf}
 use Rattle.names.specs.declared.path.Path.{Path}
 use Rattle.names.specs.declared.message.Message.{Message}
-use Rattle.settlement.specs.Values.{Lent, Site, Says, missing}
+use Rattle.settlement.specs.Values.{Lent, Site, Says, percentMessage, dateMessage, missing, textBytes, answered, dateFrom, otherSpelling}
+use Rattle.settlement.specs.Document.{Doc}
+use Rattle.amount.specs.Percentage.{parsedPercentage}
+use Rattle.date.specs.Date.{parsedDate}
 use Rattle.values.specs.declared.saying.Site as Code
 use Rattle.values.specs.declared.currencies.Fault.{Fault}
 use Rattle.values.specs.declared.currencies.Fault.the-variants.{Right, Wrong}
@@ -29,3 +33,15 @@ lentOf mode rules currency = record { mode = mode; rules = rules; currency = cur
 -- a required amount that is missing: 0, and message 9 with the path of its group
 unfoldable pub missingAmount : ℕ → Rule → Path → Site → Says Place ℤ
 missingAmount rules r p s = (pos 0, missing rules r (record { path = p; term = s .term; index = s .index }))
+
+-- the percentage that an element's text spells
+unfoldable pub parsedPercent : ℕ → Doc ℕ Place → Site → ℕ → Says Place (Option (ℤ × ℕ))
+parsedPercent mode D s e = answered mode D percentMessage s e (parsedPercentage mode (textBytes D e))
+
+-- the date
+unfoldable pub parsedDay : ℕ → Doc ℕ Place → Site → ℕ → Says Place (Option ℕ)
+parsedDay mode D s e = answered mode D dateMessage s e (parsedDate mode (textBytes D e))
+
+-- a date element of the other spelling, or not
+unfoldable pub spelling : ℕ → Doc ℕ Place → Bool → Path → ℕ → Says Place (Option ℕ)
+spelling mode D b p e = cond b (otherSpelling mode D p e) (dateFrom mode D p e)

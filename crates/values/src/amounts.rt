@@ -4,6 +4,7 @@ ghost use lib.IntN.{pos};
 ghost use Rattle.report.specs.Values.{placeOf, amountOf};
 ghost use Rattle.settlement.specs.Document.{or};
 ghost use Rattle.settlement.specs.Values as reading;
+ghost use Rattle.settlement.specs.Summation.{taxAmount};
 ghost use Rattle.element.specs.LinkDoc.{linkDoc};
 ghost use Rattle.values.specs.Sites.{siteOf, lentOf, missingAmount};
 ghost use Rattle.values.specs.Told.{Told};
@@ -18,7 +19,9 @@ use amount::ParsedAmount;
 use codes::Rule;
 use names::Message;
 use names::Path;
+use names::Term;
 use report::Amount;
+use report::Index;
 use report::Place;
 use report::Text;
 
@@ -279,5 +282,87 @@ pub fn required_amount(
                 at: read.at,
             }
         }
+    }
+}
+
+// The amount that a tax total spells; anything else is unreadable.
+pub fn tax_amount(
+    table: &[u32],
+    text: &[u8],
+    links: &[u16],
+    mode: u32,
+    entries: &mut [i64],
+    at: usize,
+    e: usize,
+) -> AmountSaid
+    ensures { λ r. ⌜ Told (taxAmount mode (linkDoc (now (table .entry)) (now (text .entry)) (now (links .entry))) e) (now (entries .entry)) at (amountOf (r .amount)) (now (entries .exit)) (r .at) ⌝ }
+{
+    let site = Site {
+        path: Path::SummationTaxTotalAmount,
+        term: Term::None,
+        index: Index::Absent,
+    };
+    let answer = InvoiceAmount::parse(element::text_bytes(table, text, links, e), mode);
+    match answer {
+        ParsedAmount::Amount(a) => AmountSaid {
+            amount: Amount::Of(a),
+            at,
+        },
+        ParsedAmount::Empty => AmountSaid {
+            amount: Amount::Absent,
+            at: say_of(
+                table,
+                text,
+                links,
+                mode,
+                entries,
+                at,
+                Message::TaxTotalUnreadable,
+                site,
+                e,
+            ),
+        },
+        ParsedAmount::Malformed => AmountSaid {
+            amount: Amount::Absent,
+            at: say_of(
+                table,
+                text,
+                links,
+                mode,
+                entries,
+                at,
+                Message::TaxTotalUnreadable,
+                site,
+                e,
+            ),
+        },
+        ParsedAmount::TooManyDecimals => AmountSaid {
+            amount: Amount::Absent,
+            at: say_of(
+                table,
+                text,
+                links,
+                mode,
+                entries,
+                at,
+                Message::TaxTotalUnreadable,
+                site,
+                e,
+            ),
+        },
+        ParsedAmount::OutOfRange => AmountSaid {
+            amount: Amount::Absent,
+            at: say_of(
+                table,
+                text,
+                links,
+                mode,
+                entries,
+                at,
+                Message::TaxTotalUnreadable,
+                site,
+                e,
+            ),
+        },
     }
 }

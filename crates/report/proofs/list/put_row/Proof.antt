@@ -1,4 +1,3 @@
-use mathlib.Core.Path.{_∙_, ap}
 use borrow.Author.Needs.{needs}
 use Rattle.report.proofs.Placing.{placed-by}
 use Rattle.report.proofs.list.put_row.Statement.{statement}

@@ -1,3 +1,4 @@
+use native.Mathlib.Omega.{arith}
 use borrow.Author.Needs.{needs}
 use Rattle.unmapped.proofs.Halving.{sought-within}
 use Rattle.unmapped.proofs.Cases.{noting-full, noting-taken, noting-free}
@@ -8,7 +9,7 @@ returns : tie.Need-returns
 returns c = noting-full _ _ _ _ (c .if1 .taken)
 
 insert-row-requires : tie.Need-insert-row-requires
-insert-row-requires c κs = (sought-within _ _ _ _ (c .before .before .before .before .seek .ensures) (c .before .before .spot .given .1), search needs)
+insert-row-requires c κs = let w = sought-within _ _ _ _ (c .before .before .before .before .seek .ensures) (c .before .before .spot .given .1) in (omega arith, search needs)
 
 returns-2 : tie.Need-returns-2
 returns-2 c = noting-taken _ _ _ _ (c .before .before .before .before .if1 .left) (c .before .before .seek .ensures) (c .enum-told .given .1)

@@ -1,0 +1,18 @@
+use borrow.Author.Needs.{needs}
+use Rattle.groups.proofs.Made.{pair-made}
+use Rattle.groups.specs.Categories.{categorySays}
+use Rattle.text.specs.Utf8.{bytes, encode}
+use Rattle.values.proofs.Telling.{said-then}
+use Rattle.groups.proofs.categories.category_in.Statement.{statement}
+use Rattle.groups.proofs.categories.category_in.Tie as tie
+
+returns : tie.Need-returns
+unfolding categorySays bytes encode
+returns c =
+    let rate = c .before .before .percent .ensures in
+    let code = c .before .before .before .before .before .before .required-code .ensures in
+    record { same = pair-made (code .same) (rate .same); said = said-then (c .before .before .before .before .before .before .before .before .before .before .say-non-vat .ensures) (said-then (code .said) (rate .said)) }
+
+pub category-in-spec : {M : Type 1} → statement M
+category-in-spec =
+    tie.close (tie.spec (λ c κs. search needs) (λ c. search needs) (λ c κs. search needs) (λ c. search needs) (λ c κs. search needs) (λ c. search needs) returns)

@@ -1,0 +1,129 @@
+// The children of a summation, one after the other.
+ghost use mathlib.Core.Path.{_≡_};
+ghost use Rattle.names.specs.declared.parent.Parent.the-variants as ParentOf;
+ghost use Rattle.settlement.specs.Summation.{summing, summed};
+ghost use Rattle.settlement.specs.TableDoc.{nameAt};
+ghost use Rattle.unmapped.specs.Noting.{noting, Noted};
+ghost use Rattle.element.specs.LinkDoc.{linkDoc};
+ghost use Rattle.values.specs.Sites.{lentOf};
+ghost use Rattle.totals.specs.State.{sumsOf, unread, Did};
+ghost use Rattle.totals.specs.Reading.{currencies};
+use crate::optional::allowance_total;
+use crate::optional::charge_total;
+use crate::optional::rounding_amount;
+use crate::optional::total_prepaid;
+use crate::state::Summing;
+use crate::state::Sums;
+use crate::sum::Sum;
+use crate::sum::sum_of;
+use crate::tax::tax_total;
+use names::Parent;
+use report::Amount;
+use report::Text;
+use report::Unmapped;
+
+// The state before the first child.
+fn blank(at: usize, count: usize) -> Summing
+    ensures { λ r. ⌜ (sumsOf (r .sums) ≡ unread) × (r .at ≡ at) × (r .count ≡ count) ⌝ }
+{
+    let sums = Sums {
+        allowance: Amount::Absent,
+        charge: Amount::Absent,
+        vat: Amount::Absent,
+        accounting: Amount::Absent,
+        paid: Amount::Absent,
+        rounding: Amount::Absent,
+    };
+    Summing { sums, at, count }
+}
+
+// The state with child c noted as unmapped.
+fn noted(table: &[u32], text: &[u8], unmapped: &mut [i64], s: Summing, c: usize) -> Summing
+    ensures { λ r. ⌜ (r .sums ≡ s .sums) × (r .at ≡ s .at) × Noted (noting (now (text .entry)) (now (unmapped .entry)) (s .count) (record { parent = ParentOf.MonetarySummation; name = nameAt (now (table .entry)) c })) (now (unmapped .exit)) (r .count) ⌝ }
+{
+    let element = Unmapped {
+        parent: Parent::MonetarySummation,
+        name: element::name(table, c),
+    };
+    let sums = s.sums;
+    Summing {
+        sums,
+        at: s.at,
+        count: unmapped::note_unmapped(text, unmapped, s.count, element),
+    }
+}
+
+// The state after child c of a summation n.
+fn summand(
+    table: &[u32],
+    text: &[u8],
+    links: &[u16],
+    mode: u32,
+    currency: &[u8],
+    entries: &mut [i64],
+    unmapped: &mut [i64],
+    bt5: Text,
+    bt6: Text,
+    s: Summing,
+    n: usize,
+    c: usize,
+) -> Summing
+    ensures { λ r. ⌜ Did (now (text .entry)) (summing (lentOf mode 0 (now (currency .entry))) (linkDoc (now (table .entry)) (now (text .entry)) (now (links .entry))) (currencies bt5 bt6) n (sumsOf (s .sums)) c) (s .at) (s .count) (now (entries .entry)) (now (unmapped .entry)) r (now (entries .exit)) (now (unmapped .exit)) ⌝ }
+{
+    let sum = sum_of(table, text, links, c);
+    match sum {
+        Sum::Required => s,
+        Sum::AllowanceTotal => {
+            allowance_total(table, text, links, mode, currency, entries, s, n)
+        }
+        Sum::ChargeTotal => charge_total(table, text, links, mode, currency, entries, s, n),
+        Sum::TaxTotal => tax_total(table, text, links, mode, entries, bt5, bt6, s, c),
+        Sum::Rounding => rounding_amount(table, text, links, mode, currency, entries, s, n),
+        Sum::Prepaid => total_prepaid(table, text, links, mode, currency, entries, s, n),
+        Sum::Unread => noted(table, text, unmapped, s, c),
+    }
+}
+
+// The state after all children of a summation n.
+pub(crate) fn summed(
+    table: &[u32],
+    text: &[u8],
+    links: &[u16],
+    mode: u32,
+    currency: &[u8],
+    entries: &mut [i64],
+    at: usize,
+    unmapped: &mut [i64],
+    count: usize,
+    bt5: Text,
+    bt6: Text,
+    n: usize,
+) -> Summing
+    ensures { λ r. ⌜ Did (now (text .entry)) (summed (lentOf mode 0 (now (currency .entry))) (linkDoc (now (table .entry)) (now (text .entry)) (now (links .entry))) (currencies bt5 bt6) n) at count (now (entries .entry)) (now (unmapped .entry)) r (now (entries .exit)) (now (unmapped .exit)) ⌝ }
+{
+    let mut s = blank(at, count);
+    let mut c = table::first_of(links, n);
+    let mut left = links.len() / 3;
+    while 0 < left {
+        if c == 0 {
+            return s;
+        }
+        s = summand(
+            table,
+            text,
+            links,
+            mode,
+            currency,
+            entries,
+            unmapped,
+            bt5,
+            bt6,
+            s,
+            n,
+            c,
+        );
+        c = table::next_of(links, c);
+        left -= 1;
+    }
+    s
+}

@@ -1,0 +1,132 @@
+// What a summation holds, and the state of a reading of its children.
+ghost use mathlib.Core.Path.{_≡_};
+ghost use Rattle.totals.specs.State.{setAllowance, setCharge, setVat, setPaid, setRounding};
+use amount::InvoiceAmount;
+use report::Amount;
+
+// The amounts that may be absent: BT-107, BT-108, BT-110, BT-111, BT-113 and BT-114.
+pub struct Sums {
+    pub allowance: Amount,
+    pub charge: Amount,
+    pub vat: Amount,
+    pub accounting: Amount,
+    pub paid: Amount,
+    pub rounding: Amount,
+}
+
+// BG-22: BT-106, BT-109, BT-112 and BT-115, and the amounts that may be absent.
+pub struct Totals {
+    pub line: InvoiceAmount,
+    pub taxable: InvoiceAmount,
+    pub gross: InvoiceAmount,
+    pub due: InvoiceAmount,
+    pub sums: Sums,
+}
+
+// Totals, where the next entry goes, and how many unmapped elements there are.
+pub struct TotalsSaid {
+    pub totals: Totals,
+    pub at: usize,
+    pub count: usize,
+}
+
+// The amounts so far, where the next entry goes, and how many unmapped elements there are.
+pub(crate) struct Summing {
+    pub(crate) sums: Sums,
+    pub(crate) at: usize,
+    pub(crate) count: usize,
+}
+
+// The amounts with BT-107 set.
+pub(crate) fn with_allowance(s: Sums, allowance: Amount) -> Sums
+    ensures { λ r. ⌜ r ≡ setAllowance allowance s ⌝ }
+{
+    let charge = s.charge;
+    let vat = s.vat;
+    let accounting = s.accounting;
+    let paid = s.paid;
+    let rounding = s.rounding;
+    Sums {
+        allowance,
+        charge,
+        vat,
+        accounting,
+        paid,
+        rounding,
+    }
+}
+
+// The amounts with BT-108 set.
+pub(crate) fn with_charge(s: Sums, charge: Amount) -> Sums
+    ensures { λ r. ⌜ r ≡ setCharge charge s ⌝ }
+{
+    let allowance = s.allowance;
+    let vat = s.vat;
+    let accounting = s.accounting;
+    let paid = s.paid;
+    let rounding = s.rounding;
+    Sums {
+        allowance,
+        charge,
+        vat,
+        accounting,
+        paid,
+        rounding,
+    }
+}
+
+// The amounts with BT-110 and BT-111 set.
+pub(crate) fn with_vat(s: Sums, vat: Amount, accounting: Amount) -> Sums
+    ensures { λ r. ⌜ r ≡ setVat vat accounting s ⌝ }
+{
+    let allowance = s.allowance;
+    let charge = s.charge;
+    let paid = s.paid;
+    let rounding = s.rounding;
+    Sums {
+        allowance,
+        charge,
+        vat,
+        accounting,
+        paid,
+        rounding,
+    }
+}
+
+// The amounts with BT-113 set.
+pub(crate) fn with_paid(s: Sums, paid: Amount) -> Sums
+    ensures { λ r. ⌜ r ≡ setPaid paid s ⌝ }
+{
+    let allowance = s.allowance;
+    let charge = s.charge;
+    let vat = s.vat;
+    let accounting = s.accounting;
+    let rounding = s.rounding;
+    Sums {
+        allowance,
+        charge,
+        vat,
+        accounting,
+        paid,
+        rounding,
+    }
+}
+
+// The amounts with BT-114 set.
+pub(crate) fn with_rounding(s: Sums, rounding: Amount) -> Sums
+    ensures { λ r. ⌜ r ≡ setRounding rounding s ⌝ }
+{
+    let allowance = s.allowance;
+    let charge = s.charge;
+    let vat = s.vat;
+    let accounting = s.accounting;
+    let paid = s.paid;
+    Sums {
+        allowance,
+        charge,
+        vat,
+        accounting,
+        paid,
+        rounding,
+    }
+}

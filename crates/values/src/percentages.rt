@@ -1,0 +1,116 @@
+// Percentages.
+ghost use Rattle.report.specs.Values.{percentOf};
+ghost use Rattle.settlement.specs.Values as reading;
+ghost use Rattle.element.specs.LinkDoc.{linkDoc};
+ghost use Rattle.values.specs.Sites.{siteOf, parsedPercent};
+ghost use Rattle.values.specs.Told.{Told};
+use crate::saying::Site;
+use crate::saying::say_of;
+use amount::ParsedPercentage;
+use amount::Percentage;
+use names::Message;
+use report::Percent;
+use report::Text;
+
+// A percentage, and where the next entry goes.
+pub struct PercentSaid {
+    pub percent: Percent,
+    pub at: usize,
+}
+
+// The percentage that the text of element e spells.
+fn parsed(
+    table: &[u32],
+    text: &[u8],
+    links: &[u16],
+    mode: u32,
+    entries: &mut [i64],
+    at: usize,
+    site: Site,
+    e: usize,
+) -> PercentSaid
+    ensures { λ r. ⌜ Told (parsedPercent mode (linkDoc (now (table .entry)) (now (text .entry)) (now (links .entry))) (siteOf site) e) (now (entries .entry)) at (percentOf (r .percent)) (now (entries .exit)) (r .at) ⌝ }
+{
+    let answer = Percentage::parse(element::text_bytes(table, text, links, e), mode);
+    match answer {
+        ParsedPercentage::Percentage(p) => PercentSaid {
+            percent: Percent::Of(p),
+            at,
+        },
+        ParsedPercentage::Malformed => PercentSaid {
+            percent: Percent::Absent,
+            at: say_of(
+                table,
+                text,
+                links,
+                mode,
+                entries,
+                at,
+                Message::NotADecimal,
+                site,
+                e,
+            ),
+        },
+        ParsedPercentage::TooPrecise => PercentSaid {
+            percent: Percent::Absent,
+            at: say_of(
+                table,
+                text,
+                links,
+                mode,
+                entries,
+                at,
+                Message::TooManyDigits,
+                site,
+                e,
+            ),
+        },
+    }
+}
+
+// The percentage of element e, absent where it has no text.
+fn percent_of(
+    table: &[u32],
+    text: &[u8],
+    links: &[u16],
+    mode: u32,
+    entries: &mut [i64],
+    at: usize,
+    site: Site,
+    e: usize,
+) -> PercentSaid
+    ensures { λ r. ⌜ Told (reading.percentOf mode (linkDoc (now (table .entry)) (now (text .entry)) (now (links .entry))) (siteOf site) e) (now (entries .entry)) at (percentOf (r .percent)) (now (entries .exit)) (r .at) ⌝ }
+{
+    let content = element::text_in(table, text, links, mode, e);
+    match content {
+        Text::Absent => PercentSaid {
+            percent: Percent::Absent,
+            at,
+        },
+        Text::At(_) => parsed(table, text, links, mode, entries, at, site, e),
+    }
+}
+
+// The percentage of the first child of a name of element n, absent where there is none.
+pub fn percent(
+    table: &[u32],
+    text: &[u8],
+    links: &[u16],
+    mode: u32,
+    entries: &mut [i64],
+    at: usize,
+    site: Site,
+    n: usize,
+    want: &[u8],
+) -> PercentSaid
+    ensures { λ r. ⌜ Told (reading.percent mode (linkDoc (now (table .entry)) (now (text .entry)) (now (links .entry))) (siteOf site) n (now (want .entry))) (now (entries .entry)) at (percentOf (r .percent)) (now (entries .exit)) (r .at) ⌝ }
+{
+    let e = element::kid(table, text, links, n, want);
+    if e == 0 {
+        return PercentSaid {
+            percent: Percent::Absent,
+            at,
+        };
+    }
+    percent_of(table, text, links, mode, entries, at, site, e)
+}
