@@ -1,6 +1,6 @@
 -- Laws of the walk over the children of a payment means.
-use mathlib.Core.Path.{_≡_, refl, sym, ap, _∙_, subst}
-use mathlib.Core.List.{List, [], _∷_, _++_, map, foldl, append-nil, append-assoc, map-append, foldl-append}
+use mathlib.Core.Path.{_≡_, refl, sym, ap, _∙_}
+use mathlib.Core.List.{List, [], _∷_, _++_, map, append-nil, append-assoc, map-append}
 use Prim.Native.Nat.{ℕ}
 use lib.IntN.{ℤ}
 use Rattle.report.specs.Rows.{Place, Entry, Transfer, Held, transfer, Unmapped}
@@ -15,8 +15,9 @@ use Rattle.settlement.specs.Shapes.{Means}
 use Rattle.settlement.specs.Payments.{Paying, paying, notHeld, withMeans, firstMeans}
 use Rattle.values.specs.Told.{Said}
 use Rattle.values.proofs.Telling.{said-none, said-then}
-use Rattle.unmapped.specs.Noting.{Rows, noting, Noted}
-use Rattle.payment.specs.Acted.{heldRows, notingOne, notingAll}
+use Rattle.unmapped.specs.Noting.{noting, Noted}
+use Rattle.unmapped.proofs.Notings.{notings-none, notings-one, notings-then}
+use Rattle.payment.specs.Acted.{heldRows}
 use Rattle.payment.specs.Walks.{meansOf, paymentOf, waits, waitingRows, payingOf}
 use Rattle.payment.specs.Walked.{Walked}
 use Rattle.payment.proofs.Ahead.{ahead, paying-ahead}
@@ -25,11 +26,6 @@ use Rattle.payment.specs.declared.paying.Means as CodeMeans
 use Rattle.payment.specs.declared.paying.Means.the-variants.{Unset, Card, Debit, Transfers}
 use Rattle.payment.specs.declared.paying.Walk as Code
 use Rattle.report.specs.declared.value.Text.{Text}
-
--- nothing was noted
-pub noted-none : (x : List ℕ) (l : List ℤ) (n : ℕ) → Noted (notingAll x l n []) l n
-unfolding notingAll
-noted-none x l n = record { list = refl; count = refl }
 
 -- no row was put
 pub no-rows : (l : List ℤ) (at : ℕ) → Placed l at (heldRows (map transfer [])) l at
@@ -55,7 +51,7 @@ walked-put :
     (x : List ℕ) (u : List ℤ) →
     Walked s w r x h h′ e e′ u u
 walked-put ts {es} {s} {w} {r} q k b a x u =
-    rw (← k) (record { payment = refl; last = refl; rows = ts; whole = refl; held = b; said = a; noted = rw q (noted-none x u (w .count)) })
+    rw (← k) (record { payment = refl; last = refl; rows = ts; whole = refl; held = b; said = a; noted = rw q (notings-none x u (w .count)) })
 
 -- the account that waited was put
 pub walked-on :
@@ -99,8 +95,7 @@ pub walked-noted :
     Noted (noting x u (w .count) v) u′ (r .count) →
     (h e : List ℤ) →
     Walked s w r x h h e e u u′
-unfolding notingAll notingOne
-walked-noted {v} {s} {w} {r} p q k a h e =
+walked-noted {v} {s} {w} {r} {x} {u} p q k a h e =
     rw (← k)
     (record {
       payment = refl;
@@ -109,7 +104,7 @@ walked-noted {v} {s} {w} {r} p q k a h e =
       whole = refl;
       held = rw p (no-rows h (w .«held_at»));
       said = rw q (said-none e (w .at));
-      noted = a;
+      noted = notings-one x u (w .count) v a;
     })
 
 -- by another's definition
@@ -134,7 +129,7 @@ module _ (m : Message) (p : Path) (new : Means Place) (s : Paying Place) {k : Co
   unfolding firstMeans
   beside-transfers e = rw e
 
--- rows and unmapped elements, one list behind the other
+-- rows, one list behind the other
 rows-append : (hs gs : List (Held Place)) → heldRows hs ++ heldRows gs ≡ heldRows (hs ++ gs)
 unfolding heldRows
 rows-append [] gs = refl
@@ -146,16 +141,6 @@ pub held-then :
     Placed l′ a (heldRows (map transfer us)) l″ b →
     Placed l at (heldRows (map transfer (ts ++ us))) l″ b
 held-then {l} {l′} {l″} {at} ts us p q = as-row l at (rows-append (map transfer ts) (map transfer us) ∙ ap heldRows (sym (map-append transfer ts us))) (placed-then p q)
-
-noted-then :
-    (x : List ℕ) (l : List ℤ) {l′ l″ : List ℤ} (n : ℕ) {n′ n″ : ℕ} (us vs : List (Unmapped Place)) →
-    Noted (notingAll x l n us) l′ n′ →
-    Noted (notingAll x l′ n′ vs) l″ n″ →
-    Noted (notingAll x l n (us ++ vs)) l″ n″
-unfolding notingAll
-noted-then x l {l′} {l″} n {n′} {n″} us vs p q =
-    let e : record { list = l′; count = n′ } ≡ notingAll x l n us = rw (p .list, p .count) in
-    subst (λ (r : Rows). Noted r l″ n″) (ap (λ (r : Rows). foldl (notingOne x) r vs) e ∙ sym (foldl-append (notingOne x) (record { list = l; count = n }) us vs)) q
 
 -- one child more
 pub walked-then :
@@ -177,5 +162,5 @@ walked-then D c {s} {w₀} {w} {r} {x} {h₀} {h} {h′} {e₀} {e} {e′} {u₀
           whole = rw (m .whole, append-assoc (k .rows));
           held = held-then (k .rows) (m .rows) (k .held) (m .held);
           said = said-then (k .said) (m .said);
-          noted = noted-then x u₀ (w₀ .count) (s .strays) (paying D (payingOf w) c .strays) (k .noted) (m .noted);
+          noted = notings-then x u₀ (w₀ .count) (s .strays) (paying D (payingOf w) c .strays) (k .noted) (m .noted);
         }

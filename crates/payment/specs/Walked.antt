@@ -7,8 +7,8 @@ use Rattle.report.specs.Rows.{Place, Transfer, transfer}
 use Rattle.report.specs.Placed.{Placed}
 use Rattle.settlement.specs.Payments.{Paying}
 use Rattle.values.specs.Told.{Said}
-use Rattle.unmapped.specs.Noting.{Noted}
-use Rattle.payment.specs.Acted.{heldRows, notingAll}
+use Rattle.unmapped.specs.Noting.{notings, Noted}
+use Rattle.payment.specs.Acted.{heldRows}
 use Rattle.payment.specs.Walks.{paymentOf, waits, waitingRows}
 use Rattle.payment.specs.declared.paying.Walk as Code
 
@@ -20,4 +20,4 @@ pub record Walked (s : Paying Place) (w r : Code.Walk) (x : List ℕ) (h h′ e 
   pub whole : s .rows ≡ rows ++ waitingRows (r .waiting)
   pub held : Placed h (w .«held_at») (heldRows (map transfer rows)) h′ (r .«held_at»)
   pub said : Said (s .says) e (w .at) e′ (r .at)
-  pub noted : Noted (notingAll x u (w .count) (s .strays)) u′ (r .count)
+  pub noted : Noted (notings x u (w .count) (s .strays)) u′ (r .count)
