@@ -3,3 +3,4 @@ pub mod Ahead
 pub mod Walking
 pub mod Transfers
 pub mod Reaching
+pub mod Firsts

@@ -1,6 +1,6 @@
 -- Laws of the walk over the children of a payment means.
-use mathlib.Core.Path.{_≡_, refl, sym, ap, _∙_, subst}
-use mathlib.Core.List.{List, [], _∷_, _++_, map, foldl, append-nil, append-assoc, map-append, foldl-append}
+use mathlib.Core.Path.{_≡_, refl, sym, ap, _∙_}
+use mathlib.Core.List.{List, [], _∷_, _++_, map, append-nil, append-assoc, map-append}
 use Prim.Native.Nat.{ℕ}
 use lib.IntN.{ℤ}
 use Rattle.report.specs.Rows.{Place, Entry, Transfer, Held, transfer, Unmapped}
@@ -129,7 +129,7 @@ module _ (m : Message) (p : Path) (new : Means Place) (s : Paying Place) {k : Co
   unfolding firstMeans
   beside-transfers e = rw e
 
--- rows and unmapped elements, one list behind the other
+-- rows, one list behind the other
 rows-append : (hs gs : List (Held Place)) → heldRows hs ++ heldRows gs ≡ heldRows (hs ++ gs)
 unfolding heldRows
 rows-append [] gs = refl

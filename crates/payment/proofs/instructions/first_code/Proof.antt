@@ -1,14 +1,13 @@
-use mathlib.Core.Option.{some}
-use mathlib.Core.Path.{ap}
 use borrow.Author.Needs.{needs}
+use Rattle.payment.proofs.Firsts.{first-code, first-kept}
 use Rattle.payment.proofs.instructions.first_code.Statement.{statement}
 use Rattle.payment.proofs.instructions.first_code.Tie as tie
 
 returns : tie.Need-returns
-returns c = rw (c .before .enum-told .given .1) (ap some (c .own-text .ensures))
+returns c = search first-code
 
 returns-2 : tie.Need-returns-2
-returns-2 c = rw (c .before .earlier .given .1)
+returns-2 c = search first-kept
 
 pub first-code-spec : {M : Type 1} → statement M
 first-code-spec =
