@@ -2,7 +2,7 @@
 use mathlib.Core.Path.{_≡_, refl, ap, subst}
 use mathlib.Core.Bool.{Bool, true, false, cond, _&&_}
 use mathlib.Core.List.{List, [], _∷_, _++_}
-use mathlib.Core.Option.{Option, none, some}
+use mathlib.Core.Option.{Option, some}
 use Prim.Native.Nat.{ℕ}
 use lib.IntN.{ℤ}
 use Rattle.names.specs.declared.message.Message.the-variants as Message
@@ -17,8 +17,8 @@ use Rattle.settlement.specs.Summation.{Summing, withVat, isNone, isCurrency, ta
 use Rattle.settlement.specs.Values.{Says, site, entry}
 use Rattle.values.specs.Told.{Said, Told}
 use Rattle.values.proofs.Telling.{said-none, said-then}
-use Rattle.unmapped.specs.Noting.{noting, notings, Noted}
-use Rattle.unmapped.proofs.Notings.{notings-none, notings-one, notings-then}
+use Rattle.unmapped.specs.Noting.{noting, Noted}
+use Rattle.unmapped.proofs.Notings.{notings-none, notings-one}
 use Rattle.totals.specs.State.{sumsOf, amounts, setAllowance, setCharge, setVat, setPaid, setRounding, withAllowance, withCharge, withRounding, withPaid, unmapping, Summed, Did}
 use Rattle.totals.specs.declared.state.Sums as Sums
 use Rattle.totals.specs.declared.state.Summing as State

@@ -1,7 +1,7 @@
 -- Laws of the loop over a summation's children, and of the totals after it.
 use mathlib.Core.Path.{_≡_, refl, sym, ap, _∙_, subst}
 use mathlib.Core.Logic.{_≢_}
-use mathlib.Core.List.{List, [], _∷_, _++_, foldl}
+use mathlib.Core.List.{List, [], _∷_, foldl}
 use mathlib.Core.Option.{Option, none, some}
 use Prim.Native.Nat.{ℕ, _-_, _/_, _≤_, _<_}
 use lib.IntN.{ℤ}
@@ -10,7 +10,7 @@ use Rattle.text.specs.Utf8.{bytes}
 use Rattle.amount.specs.declared.amount.InvoiceAmount as Money
 use Rattle.table.specs.Links.{link, chain}
 use Rattle.table.proofs.Chains.{fold-start, fold-turn, fold-zero, fold-out}
-use Rattle.report.specs.Rows.{Place, Entry}
+use Rattle.report.specs.Rows.{Place}
 use Rattle.settlement.specs.Document.{Doc, maybe}
 use Rattle.settlement.specs.Shapes.{Currencies}
 use Rattle.settlement.specs.Summation.{Sum, required, allowanceTotal, chargeTotal, taxTotal, rounding, prepaid, Summing, withVat, sumOf, taxAmount, taxIn, taxTotalOf, summand, summing, summed, totals}
