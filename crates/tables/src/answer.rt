@@ -1,4 +1,9 @@
 // The answer of a case: the verdict on a table, the records under each record, and look-ups by name.
+ghost use mathlib.Core.Path.{_≡_};
+ghost use mathlib.Core.Bool.{cond};
+ghost use Prim.Native.Nat.{_+_, _*_, _/_};
+ghost use lib.Dec.{ltb};
+ghost use lib.ListN.{length, getD};
 use table::Field;
 use table::Verdict;
 
@@ -26,12 +31,17 @@ fn print_verdict(v: Verdict) {
     }
 }
 
-fn wide(x: u16) -> usize {
+// A link as a record's number.
+fn wide(x: u16) -> usize
+    ensures { λ r. ⌜ r ≡ x ⌝ }
+{
     x as usize
 }
 
-// The first attribute of record i.
-fn first_attribute(links: &[u16], i: usize) -> usize {
+// The first attribute of record i, and 0 where it has none or the links have no such record.
+fn first_attribute(links: &[u16], i: usize) -> usize
+    ensures { λ r. ⌜ r ≡ cond (ltb i (length (now (links .entry)) / 3)) (getD (now (links .entry)) (i * 3 + 1) 0) 0 ⌝ }
+{
     if i < links.len() / 3 {
         wide(links[i * 3 + 1])
     } else {
