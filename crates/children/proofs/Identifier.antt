@@ -1,0 +1,37 @@
+-- Readings that do not look at the specification identifier: the definitions of a call's are those of its mode, rules number and currency.
+use mathlib.Core.Path.{_≡_, refl, fun-ext}
+use mathlib.Core.List.{List}
+use Prim.Native.Nat.{ℕ}
+use Rattle.report.specs.Rows.{Place}
+use Rattle.settlement.specs.Document.{Doc}
+use Rattle.settlement.specs.Shapes.{VatState, Currencies}
+use Rattle.settlement.specs.Summation.{Sum, required, allowanceTotal, chargeTotal, taxTotal, rounding, prepaid, unread, Summing, taxTotalOf, summand, summing, summed, totals, sumOf}
+use Rattle.settlement.specs.Tax.{tradeTaxOf}
+use Rattle.settlement.specs.Values.{requiredAmount}
+use Rattle.values.specs.Sites.{lentOf}
+use Rattle.children.specs.Calls.{callOf}
+
+module _ (mode rules : ℕ) (currency identifier : List ℕ) (D : Doc ℕ Place) where
+  summand-alike : (k : Sum) (cur : Currencies Place) (n : ℕ) (s : Summing Place) (c : ℕ) → summand (lentOf mode rules currency) D k cur n s c ≡ summand (callOf mode rules currency identifier) D k cur n s c
+  unfolding summand taxTotalOf
+  summand-alike required cur n s c = refl
+  summand-alike allowanceTotal cur n s c = refl
+  summand-alike chargeTotal cur n s c = refl
+  summand-alike taxTotal cur n s c = refl
+  summand-alike rounding cur n s c = refl
+  summand-alike prepaid cur n s c = refl
+  summand-alike unread cur n s c = refl
+
+  summing-alike : (cur : Currencies Place) (n : ℕ) → summing (lentOf mode rules currency) D cur n ≡ summing (callOf mode rules currency identifier) D cur n
+  unfolding summing
+  summing-alike cur n = fun-ext (λ s. fun-ext (λ c. summand-alike (sumOf D c) cur n s c))
+
+  -- the summation
+  pub totals-alike : (cur : Currencies Place) (n : ℕ) → totals (lentOf mode rules currency) D cur n ≡ totals (callOf mode rules currency identifier) D cur n
+  unfolding totals summed requiredAmount
+  totals-alike cur n = rw (summing-alike cur n)
+
+  -- a VAT breakdown
+  pub trade-tax-alike : (s : VatState Place) (n : ℕ) → tradeTaxOf (lentOf mode rules currency) D s n ≡ tradeTaxOf (callOf mode rules currency identifier) D s n
+  unfolding tradeTaxOf requiredAmount
+  trade-tax-alike s n = refl

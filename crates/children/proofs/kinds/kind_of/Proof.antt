@@ -1,0 +1,12 @@
+use borrow.Author.Needs.{needs}
+use Rattle.settlement.specs.Settlement.{kindOf}
+use Rattle.children.proofs.kinds.kind_of.Statement.{statement}
+use Rattle.children.proofs.kinds.kind_of.Tie as tie
+
+returns : tie.Need-returns
+unfolding kindOf
+returns c = rw (c .before .before .name .ensures) at (rw (c .before .shown .ensures) at (c .kind-named .ensures))
+
+pub kind-of-spec : {M : Type 1} → statement M
+kind-of-spec =
+    tie.close (tie.spec (λ c κs. search needs) (λ c κs. search needs) (λ c κs. search needs) returns)

@@ -1,0 +1,17 @@
+use mathlib.Core.Path.{refl, ap}
+use mathlib.Core.Option.{some}
+use borrow.Author.Needs.{needs}
+use Rattle.settlement.specs.Kinds.{sameKind, home}
+use Rattle.settlement.specs.Settlement.{quiet, own}
+use Rattle.children.specs.Steps.{actBy, stepBy}
+use Rattle.children.proofs.Stepping.{lanes, none-held, none-said, none-noted}
+use Rattle.children.proofs.plain.tax_currency.Statement.{statement}
+use Rattle.children.proofs.plain.tax_currency.Tie as tie
+
+returns : tie.Need-returns
+unfolding stepBy actBy own quiet home sameKind
+returns c L h e u =
+    record { state = lanes refl refl (ap some (c .before .before .before .own-text .ensures)) refl refl refl refl refl refl refl refl refl refl refl refl; held = none-held refl refl h; said = none-said refl refl e; noted = none-noted refl refl _ u }
+
+pub tax-currency-spec : {M : Type 1} → statement M
+tax-currency-spec = tie.close (tie.spec (λ c κs. search needs) returns)

@@ -1,0 +1,24 @@
+use mathlib.Core.Path.{refl, sym, ap, _∙_}
+use native.Mathlib.Omega.{arith}
+use borrow.Author.Needs.{needs}
+use Rattle.children.proofs.Acting.{vat-acted}
+use Rattle.children.proofs.Stepping.{lanes}
+use Rattle.children.specs.Steps.{actBy, stepBy}
+use Rattle.groups.proofs.Meaning.{trade-tax-says, trade-tax-holds, trade-tax-next}
+use Rattle.report.specs.Rows.{Place, Vat, vat}
+use Rattle.settlement.specs.Kinds.{sameKind, home}
+use Rattle.settlement.specs.Settlement.{own}
+use Rattle.settlement.specs.Shapes.{VatState}
+use Rattle.settlement.specs.Tax.{tradeTaxOf}
+use Rattle.children.proofs.rows.trade_tax.Statement.{statement}
+use Rattle.children.proofs.rows.trade_tax.Tie as tie
+
+returns : tie.Need-returns
+unfolding stepBy actBy own home sameKind
+returns c identifier u =
+    let acted = vat-acted _ _ _ identifier _ _ _ (c .before .before .before .before .before .before .before .before .trade-tax .ensures) (c .before .before .before .put-vat .ensures) _ u _ in
+    record { state = lanes refl refl refl refl refl refl (acted .same) refl refl refl refl refl refl refl refl; held = acted .held; said = acted .said; noted = acted .noted }
+
+pub trade-tax-spec : {M : Type 1} → statement M
+trade-tax-spec =
+    tie.close (tie.spec (λ c κs. search needs) (λ c. search needs) (λ c κs. search needs) (λ c. search needs) (λ c. search needs) returns)

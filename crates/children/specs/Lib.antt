@@ -1,0 +1,5 @@
+pub mod Calls
+pub mod Counts
+pub mod Kinds
+pub mod States
+pub mod Steps
