@@ -15,7 +15,7 @@ use Rattle.text.specs.Trim.{trimmed, trimOf}
 use Rattle.text.proofs.Trims.{trimmed-in}
 use Rattle.amount.specs.Decimal.{empty}
 use Rattle.table.specs.Table.{cell, nameOf, textOf, named, found, firstOf}
-use Rattle.table.specs.Links.{linked}
+use Rattle.links.specs.Links.{linked}
 use Rattle.report.specs.Rows.{Place}
 use Rattle.settlement.specs.Document.{Doc, maybe}
 use Rattle.settlement.specs.TableDoc.{textAt, ownTextAt, shows}

@@ -1,7 +1,7 @@
 -- A table whose records are linked, as a document; `linked-doc` (proofs/Documents.antt) says that it is the table's own.
 use mathlib.Core.List.{List}
 use Prim.Native.Nat.{ℕ}
-use Rattle.table.specs.Links.{linked}
+use Rattle.links.specs.Links.{linked}
 use Rattle.report.specs.Rows.{Place}
 use Rattle.settlement.specs.Document.{Doc}
 use Rattle.settlement.specs.TableDoc.{docOf}

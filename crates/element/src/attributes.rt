@@ -12,7 +12,7 @@ use table::Field;
 pub fn attribute_text(table: &[u32], text: &[u8], links: &[u16], n: usize, want: &[u8]) -> Text
     ensures { λ t. ⌜ textOf t ≡ linkDoc (now (table .entry)) (now (text .entry)) (now (links .entry)) .attr n (now (want .entry)) ⌝ }
 {
-    let a = table::attribute(table, text, links, n, want);
+    let a = links::attribute(table, text, links, n, want);
     if a == 0 {
         return Text::Absent;
     }
@@ -27,7 +27,7 @@ pub fn attribute_text(table: &[u32], text: &[u8], links: &[u16], n: usize, want:
 pub fn attribute(table: &[u32], text: &[u8], links: &[u16], n: usize, want: &[u8]) -> Text
     ensures { λ t. ⌜ textOf t ≡ reading.attribute (linkDoc (now (table .entry)) (now (text .entry)) (now (links .entry))) n (now (want .entry)) ⌝ }
 {
-    let a = table::attribute(table, text, links, n, want);
+    let a = links::attribute(table, text, links, n, want);
     if a == 0 {
         return Text::Absent;
     }

@@ -11,7 +11,7 @@ use report::Text;
 pub fn kid(table: &[u32], text: &[u8], links: &[u16], n: usize, want: &[u8]) -> usize
     ensures { λ c. ⌜ found c ≡ reading.kid (linkDoc (now (table .entry)) (now (text .entry)) (now (links .entry))) n (now (want .entry)) ⌝ }
 {
-    table::first_child(table, text, links, n, want)
+    links::first_child(table, text, links, n, want)
 }
 
 // Its text, trimmed in a mode; absent where there is no such child or its text is blank.

@@ -5,8 +5,8 @@ use mathlib.Core.List.{List, map, foldl}
 use Prim.Native.Nat.{ℕ, _-_, _/_, _≤_, _<_}
 use lib.IntN.{ℤ}
 use lib.ListN.{length}
-use Rattle.table.specs.Links.{link, chain, linked}
-use Rattle.table.proofs.Chains.{fold-start, fold-turn, fold-zero, fold-out}
+use Rattle.links.specs.Links.{link, chain, linked}
+use Rattle.links.proofs.Chains.{fold-start, fold-turn, fold-zero, fold-out}
 use Rattle.report.specs.Rows.{Place, transfer}
 use Rattle.report.specs.Placed.{Placed}
 use Rattle.settlement.specs.Document.{Doc}

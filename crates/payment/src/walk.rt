@@ -89,14 +89,14 @@ fn read_children(
     ensures { λ r. ⌜ Walked (foldl (paying (linkDoc (now (table .entry)) (now (text .entry)) (now (links .entry)))) (payingOf start) (linkDoc (now (table .entry)) (now (text .entry)) (now (links .entry)) .kids n)) start r (now (text .entry)) (now (held .entry)) (now (held .exit)) (now (entries .entry)) (now (entries .exit)) (now (unmapped .entry)) (now (unmapped .exit)) ⌝ }
 {
     let mut walk = start;
-    let mut c = table::first_of(links, n);
+    let mut c = links::first_of(links, n);
     let mut left = links.len() / 3;
     while 0 < left {
         if c == 0 {
             return walk;
         }
         walk = read_child(table, text, links, held, entries, unmapped, walk, c);
-        c = table::next_of(links, c);
+        c = links::next_of(links, c);
         left -= 1;
     }
     walk

@@ -4,8 +4,8 @@ use mathlib.Core.Bool.{false, true≢false}
 use mathlib.Core.List.{List}
 use mathlib.Core.Option.{Option, none, some}
 use Prim.Native.Nat.{ℕ}
-use Rattle.table.specs.Refusals.{refuse, atRoot, refusal}
-use Rattle.table.proofs.Accepting.{passed-on, at-none}
+use Rattle.refusals.specs.Refusals.{refuse, atRoot, refusal}
+use Rattle.refusals.proofs.Accepting.{passed-on, at-none}
 use Rattle.report.specs.Rows.{Place}
 use Rattle.settlement.specs.Document.{orElse}
 use Rattle.settlement.specs.Shapes.{Reading}

@@ -10,7 +10,7 @@ use borrow.Author.Tests.{ltb-false}
 use lib.Dec.{ltb}
 use lib.ListN.{length, length-append}
 use Rattle.table.specs.Table.{records, kids}
-use Rattle.table.proofs.Accepting.{accepted-is, neither}
+use Rattle.refusals.proofs.Accepting.{accepted-is, neither}
 use Rattle.report.specs.Encoding.{heldWidth, entryWidth, unmappedWidth}
 use Rattle.report.specs.Rows.{Place}
 use Rattle.settlement.specs.Document.{Doc}

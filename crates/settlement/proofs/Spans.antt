@@ -12,9 +12,9 @@ use lib.Dec.{ltb, eqb}
 use lib.IntN.{pos}
 use lib.ListN.{length}
 use Rattle.table.specs.Table.{records, cell, named, kids, attrs, firstOf}
-use Rattle.table.specs.Refusals.{beyond, outside, refusal}
-use Rattle.table.specs.Acceptance.{Accepted}
-use Rattle.table.proofs.Accepting.{accepted-is, neither}
+use Rattle.refusals.specs.Refusals.{beyond, outside, refusal}
+use Rattle.refusals.specs.Acceptance.{Accepted}
+use Rattle.refusals.proofs.Accepting.{accepted-is, neither}
 use Rattle.table.proofs.Records.{past}
 use Rattle.report.specs.Encoding.{tidy, placeStart, placeLength, textStart, textLength}
 use Rattle.report.specs.Rows.{Place}

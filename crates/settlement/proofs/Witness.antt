@@ -11,8 +11,8 @@ use Rattle.text.specs.Span.{clipped}
 use Rattle.text.specs.Span.{cut as cutAt}
 use Rattle.text.specs.Utf8.{encode, bytes, tail, scalar, two, three, four, charOf, front, chars, allGood, utf8}
 use Rattle.codes.specs.Rules.{bit, inForce}
-use Rattle.table.specs.Table.{nameOf, textOf, named, kin, below, kids, attrs, firstOf}
-use Rattle.table.specs.Refusals.{ragged, oversized, notRoot, misplaced, beyond, outside, notUtf8, notSettlement, firstFrom, recordRefusal, sizeRefusal, refusal}
+use Rattle.table.specs.Table.{nameOf, textOf, named, kin, below, kids, attrs, firstOf, firstFrom}
+use Rattle.refusals.specs.Refusals.{ragged, oversized, notRoot, misplaced, beyond, outside, notUtf8, notSettlement, recordRefusal, sizeRefusal, refusal}
 use Rattle.names.specs.Message.{messageNumber}
 use Rattle.report.specs.Rows.{Place, Entry}
 use Rattle.settlement.specs.Shapes.{Reading}

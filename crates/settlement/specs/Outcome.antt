@@ -5,7 +5,7 @@ use mathlib.Core.Option.{Option, none, some}
 use Prim.Native.Nat.{ℕ, _*_}
 use lib.Dec.{ltb}
 use Rattle.table.specs.Table.{records}
-use Rattle.table.specs.Refusals.{refuse, atRoot, refusal}
+use Rattle.refusals.specs.Refusals.{refuse, atRoot, refusal}
 use Rattle.report.specs.Encoding.{heldWidth, entryWidth, unmappedWidth}
 use Rattle.report.specs.Rows.{Place}
 use Rattle.settlement.specs.Shapes.{Reading}

@@ -9,8 +9,7 @@ use native.Mathlib.Nat.{add-zero}
 use borrow.Author.Tests.{lt-ltb, eq-eqb, ltb-true, eqb-true}
 use lib.Dec.{ltb, eqb}
 use Rattle.text.proofs.Bools.{both}
-use Rattle.table.specs.Table.{records, cell, kin, below, named, firstOf, firstNamed, kinNamed, found}
-use Rattle.table.specs.Refusals.{firstFrom}
+use Rattle.table.specs.Table.{records, cell, kin, below, named, firstOf, firstNamed, kinNamed, firstFrom, found}
 
 module _ (t : List ℕ) (k : ℕ) where
   pub record Kin (i j : ℕ) : Type 0 where

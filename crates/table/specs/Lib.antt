@@ -1,6 +1,2 @@
 pub mod Fields
 pub mod Table
-pub mod Links
-pub mod Refusals
-pub mod Acceptance
-pub mod Verdicts

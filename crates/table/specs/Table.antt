@@ -45,6 +45,11 @@ kids t i = below t 1 i (records t)
 unfoldable pub attrs : List ℕ → ℕ → List ℕ
 attrs t i = below t 2 i (records t)
 
+-- the first of m records from j on that passes a test
+unfoldable pub firstFrom : (ℕ → Bool) → ℕ → ℕ → Option ℕ
+firstFrom p j zero = none
+firstFrom p j (suc m) = cond (p j) (some j) (firstFrom p (suc j) m)
+
 -- the first record of a list that passes a test
 unfoldable pub firstOf : (ℕ → Bool) → List ℕ → Option ℕ
 firstOf p [] = none

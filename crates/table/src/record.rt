@@ -61,7 +61,7 @@ fn wide(x: u32) -> usize
 }
 
 // A field of record r as a place or a record's number.
-pub(crate) fn field_at(table: &[u32], r: usize, f: Field) -> usize
+pub fn field_at(table: &[u32], r: usize, f: Field) -> usize
     ensures { λ n. ⌜ n ≡ cell (now (table .entry)) r (place f) ⌝ }
 {
     wide(field_of(table, r, f))
@@ -117,8 +117,8 @@ fn is_kin_named(table: &[u32], text: &[u8], kind: u32, i: usize, want: &[u8], j:
 }
 
 // The first child (kind 1) or attribute (kind 2) of a name under record i, and 0 where there is
-// none: record 0 is under no other. All records are looked at; `first_child` and `attribute` look
-// at those under i only.
+// none: record 0 is under no other. All records are looked at; crate `links` looks at those under i
+// only.
 pub fn find(table: &[u32], text: &[u8], kind: u32, i: usize, want: &[u8]) -> usize
     ensures { λ r. ⌜ found r ≡ firstNamed (now (table .entry)) (now (text .entry)) kind i (now (want .entry)) ⌝ }
 {

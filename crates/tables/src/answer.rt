@@ -4,8 +4,8 @@ ghost use mathlib.Core.Bool.{cond};
 ghost use Prim.Native.Nat.{_+_, _*_, _/_};
 ghost use lib.Dec.{ltb};
 ghost use lib.ListN.{length, getD};
+use refusals::Verdict;
 use table::Field;
-use table::Verdict;
 
 const STDOUT: i32 = 1;
 
@@ -61,7 +61,7 @@ fn print_linked(links: &[u16], i: usize, first: usize, mark: &[u8]) {
     let mut c = first;
     let mut left = links.len() / 3;
     while 0 < left {
-        c = table::next_of(links, c);
+        c = links::next_of(links, c);
         if c == 0 {
             return;
         }
@@ -75,7 +75,7 @@ fn print_linked(links: &[u16], i: usize, first: usize, mark: &[u8]) {
 fn print_links(n: usize, links: &[u16]) {
     let mut i = 0;
     while i < n {
-        print_linked(links, i, table::first_of(links, i), b">");
+        print_linked(links, i, links::first_of(links, i), b">");
         print_linked(links, i, first_attribute(links, i), b"@");
         i += 1;
     }
@@ -92,7 +92,7 @@ fn print_other(found: usize, linked: usize) {
 // a mark where the links find another.
 fn print_found(table: &[u32], text: &[u8], j: usize, links: &[u16]) {
     let kind = table::field_of(table, j, Field::Kind);
-    let parent = table::field_of(table, j, Field::Parent) as usize;
+    let parent = table::field_at(table, j, Field::Parent);
     let name = table::name(table, text, j);
     let k = table::find(table, text, kind, parent, name);
     print(b" ");
@@ -100,8 +100,8 @@ fn print_found(table: &[u32], text: &[u8], j: usize, links: &[u16]) {
     print(b"=");
     print_number(k);
     match kind {
-        1 => print_other(k, table::first_child(table, text, links, parent, name)),
-        2 => print_other(k, table::attribute(table, text, links, parent, name)),
+        1 => print_other(k, links::first_child(table, text, links, parent, name)),
+        2 => print_other(k, links::attribute(table, text, links, parent, name)),
         _ => {}
     }
 }
@@ -117,9 +117,9 @@ fn print_lookups(table: &[u32], text: &[u8], n: usize, links: &[u16]) {
 
 // The answer for a table and its text.
 pub(crate) fn print_answer(table: &[u32], text: &[u8]) {
-    print_verdict(table::check(table, text));
+    print_verdict(refusals::check(table, text));
     let mut links = [0u16; 12288];
-    table::link(table, &mut links);
+    links::link(table, &mut links);
     let count = table::count(table);
     let n = if count < SHOWN { count } else { SHOWN };
     print_links(n, &links);

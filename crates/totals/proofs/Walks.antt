@@ -8,8 +8,8 @@ use lib.IntN.{ℤ}
 use lib.ListN.{length}
 use Rattle.text.specs.Utf8.{bytes}
 use Rattle.amount.specs.declared.amount.InvoiceAmount as Money
-use Rattle.table.specs.Links.{link, chain}
-use Rattle.table.proofs.Chains.{fold-start, fold-turn, fold-zero, fold-out}
+use Rattle.links.specs.Links.{link, chain}
+use Rattle.links.proofs.Chains.{fold-start, fold-turn, fold-zero, fold-out}
 use Rattle.report.specs.Rows.{Place}
 use Rattle.settlement.specs.Document.{Doc, maybe}
 use Rattle.settlement.specs.Shapes.{Currencies}

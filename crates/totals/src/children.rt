@@ -102,7 +102,7 @@ pub(crate) fn summed(
     ensures { λ r. ⌜ Did (now (text .entry)) (summed (lentOf mode 0 (now (currency .entry))) (linkDoc (now (table .entry)) (now (text .entry)) (now (links .entry))) (currencies bt5 bt6) n) at count (now (entries .entry)) (now (unmapped .entry)) r (now (entries .exit)) (now (unmapped .exit)) ⌝ }
 {
     let mut s = blank(at, count);
-    let mut c = table::first_of(links, n);
+    let mut c = links::first_of(links, n);
     let mut left = links.len() / 3;
     while 0 < left {
         if c == 0 {
@@ -122,7 +122,7 @@ pub(crate) fn summed(
             n,
             c,
         );
-        c = table::next_of(links, c);
+        c = links::next_of(links, c);
         left -= 1;
     }
     s

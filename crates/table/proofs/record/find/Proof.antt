@@ -2,8 +2,7 @@ use mathlib.Core.Path.{_≡_, refl}
 use Prim.Native.Nat.{_-_}
 use native.Mathlib.Omega.{arith}
 use borrow.Author.Needs.{needs}
-use Rattle.table.specs.Table.{firstNamed, kinNamed}
-use Rattle.table.specs.Refusals.{firstFrom}
+use Rattle.table.specs.Table.{firstNamed, kinNamed, firstFrom}
 use Rattle.table.proofs.Scans.{scan-on, scan-hit, scan-end}
 use Rattle.table.proofs.Kin.{first-named, found-hit}
 use Rattle.table.proofs.record.find.Statement.{statement}

@@ -1,0 +1,50 @@
+use mathlib.Core.Path.{_≡_, refl}
+use Prim.Native.Nat.{_-_}
+use native.Mathlib.Omega.{arith}
+use borrow.Author.Needs.{needs}
+use Rattle.table.specs.Table.{records, firstFrom}
+use Rattle.refusals.specs.Refusals.{outside}
+use Rattle.table.proofs.Scans.{scan-on, scan-hit, scan-end}
+use Rattle.refusals.proofs.refusal.first_outside.Statement.{statement}
+use Rattle.refusals.proofs.refusal.first_outside.Tie as tie
+
+abbrev Inv-loop : tie.InvT-loop
+Inv-loop table text n j₀ j = firstFrom (outside table text) 0 (records table - 0) ≡ firstFrom (outside table text) j (n - j)
+
+abbrev μ-loop : tie.MeasureT-loop
+μ-loop table text n j₀ j = n - j
+
+loop-holds : tie.Need-loop-holds Inv-loop μ-loop
+loop-holds c = refl
+
+is-outside-requires : tie.Need-is-outside-requires Inv-loop μ-loop
+is-outside-requires c κs = search needs
+
+returns : tie.Need-returns Inv-loop μ-loop
+returns c = search scan-hit
+
+add-j : tie.Need-add-j Inv-loop μ-loop
+add-j c = omega arith
+
+loop-less : tie.Need-loop-less Inv-loop μ-loop
+loop-less c = omega arith
+
+loop-again : tie.Need-loop-again Inv-loop μ-loop
+loop-again c = search scan-on
+
+returns-2 : tie.Need-returns-2 Inv-loop μ-loop
+returns-2 c = search scan-end
+
+pub first-outside-spec : {M : Type 1} → statement M
+first-outside-spec =
+    tie.close
+    (tie.spec
+    Inv-loop
+    μ-loop
+    loop-holds
+    is-outside-requires
+    returns
+    add-j
+    loop-less
+    loop-again
+    returns-2)
