@@ -8,12 +8,13 @@ use lib.ListN.{length}
 use Rattle.links.specs.Links.{link, chain, linked}
 use Rattle.links.proofs.Chains.{fold-start, fold-turn, fold-zero, fold-out}
 use Rattle.report.specs.Rows.{Place, transfer}
+use Rattle.report.specs.Encoding.{heldRow, rowsOf}
 use Rattle.report.specs.Placed.{Placed}
 use Rattle.settlement.specs.Document.{Doc}
 use Rattle.settlement.specs.Shapes.{Payment}
 use Rattle.settlement.specs.Payments.{Paying, paying, payingStart, paid, paymentMeansOf}
 use Rattle.element.specs.LinkDoc.{linkDoc}
-use Rattle.payment.specs.Acted.{heldRows, Acted}
+use Rattle.unmapped.specs.Acted.{Acted}
 use Rattle.payment.specs.Walks.{paymentOf, waitingRows, payingOf}
 use Rattle.payment.specs.Walked.{Walked}
 use Rattle.payment.specs.declared.paying.Walk as Code
@@ -56,7 +57,7 @@ pub acted :
     (D : Doc ℕ Place) (p : Payment Place) (n : ℕ) {w₀ w : Code.Walk} {x : List ℕ} {h₀ h h′ e₀ e u₀ u : List ℤ} {r : ℕ} →
     payingOf w₀ ≡ payingStart p →
     Walked (foldl (paying D) (payingOf w₀) (D .kids n)) w₀ w x h₀ h e₀ e u₀ u →
-    Placed h (w .«held_at») (heldRows (map transfer (waitingRows (w .waiting)))) h′ r →
+    Placed h (w .«held_at») (rowsOf heldRow (map transfer (waitingRows (w .waiting)))) h′ r →
     Acted (paymentMeansOf D p n) x (paymentOf (w .payment)) h₀ (w₀ .«held_at») h′ r e₀ (w₀ .at) e (w .at) u₀ (w₀ .count) u (w .count)
 unfolding paymentMeansOf paid
 acted D p n {w₀} {w} {x} {h₀} {h} {h′} {e₀} {e} {u₀} {u} {r} s k b = go (rw s at k)

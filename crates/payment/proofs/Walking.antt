@@ -3,11 +3,11 @@ use mathlib.Core.Path.{_≡_, refl, sym, ap, _∙_}
 use mathlib.Core.List.{List, [], _∷_, _++_, map, append-nil, append-assoc, map-append}
 use Prim.Native.Nat.{ℕ}
 use lib.IntN.{ℤ}
-use Rattle.report.specs.Rows.{Place, Entry, Transfer, Held, transfer, Unmapped}
-use Rattle.report.specs.Encoding.{heldRow}
+use Rattle.report.specs.Rows.{Place, Entry, Transfer, transfer, Unmapped}
+use Rattle.report.specs.Encoding.{heldRow, rowsOf}
 use Rattle.report.specs.Placed.{Placed}
 use Rattle.report.proofs.Cells.{as-row}
-use Rattle.report.proofs.Placing.{placed-none, placed-then}
+use Rattle.report.proofs.RowsOf.{rows-none, rows-then}
 use Rattle.names.specs.declared.message.Message.{Message}
 use Rattle.names.specs.declared.path.Path.{Path}
 use Rattle.settlement.specs.Document.{Doc}
@@ -17,7 +17,6 @@ use Rattle.values.specs.Told.{Said}
 use Rattle.values.proofs.Telling.{said-none, said-then}
 use Rattle.unmapped.specs.Noting.{noting, Noted}
 use Rattle.unmapped.proofs.Notings.{notings-none, notings-one, notings-then}
-use Rattle.payment.specs.Acted.{heldRows}
 use Rattle.payment.specs.Walks.{meansOf, paymentOf, waits, waitingRows, payingOf}
 use Rattle.payment.specs.Walked.{Walked}
 use Rattle.payment.proofs.Ahead.{ahead, paying-ahead}
@@ -26,16 +25,6 @@ use Rattle.payment.specs.declared.paying.Means as CodeMeans
 use Rattle.payment.specs.declared.paying.Means.the-variants.{Unset, Card, Debit, Transfers}
 use Rattle.payment.specs.declared.paying.Walk as Code
 use Rattle.report.specs.declared.value.Text.{Text}
-
--- no row was put
-pub no-rows : (l : List ℤ) (at : ℕ) → Placed l at (heldRows (map transfer [])) l at
-unfolding heldRows
-no-rows l at = placed-none l at
-
--- one was put
-pub one-row : (t : Transfer Place) {l l′ : List ℤ} {at r : ℕ} → Placed l at (heldRow (transfer t)) l′ r → Placed l at (heldRows (map transfer (t ∷ []))) l′ r
-unfolding heldRows
-one-row t {l} {l′} {at} p = as-row l at (sym (append-nil (heldRow (transfer t)))) p
 
 -- a walk, and what was put and said on the way to it
 abbrev pub spoken : List (Transfer Place) → List (Entry Place) → Code.Walk → Paying Place
@@ -46,7 +35,7 @@ walked-put :
     (ts : List (Transfer Place)) {es : List (Entry Place)} {s : Paying Place} {w r : Code.Walk} {h h′ e e′ : List ℤ} →
     r .count ≡ w .count →
     spoken ts es r ≡ s →
-    Placed h (w .«held_at») (heldRows (map transfer ts)) h′ (r .«held_at») →
+    Placed h (w .«held_at») (rowsOf heldRow (map transfer ts)) h′ (r .«held_at») →
     Said es e (w .at) e′ (r .at) →
     (x : List ℕ) (u : List ℤ) →
     Walked s w r x h h′ e e′ u u
@@ -57,7 +46,7 @@ walked-put ts {es} {s} {w} {r} q k b a x u =
 pub walked-on :
     {es : List (Entry Place)} {s : Paying Place} {w r : Code.Walk} {h h′ e e′ : List ℤ} →
     r .count ≡ w .count →
-    Placed h (w .«held_at») (heldRows (map transfer (waitingRows (w .waiting)))) h′ (r .«held_at») →
+    Placed h (w .«held_at») (rowsOf heldRow (map transfer (waitingRows (w .waiting)))) h′ (r .«held_at») →
     Said es e (w .at) e′ (r .at) →
     spoken (waitingRows (w .waiting)) es r ≡ s →
     (x : List ℕ) (u : List ℤ) →
@@ -73,7 +62,7 @@ pub walked-said :
     Said es e (w .at) e′ (r .at) →
     (x : List ℕ) (h u : List ℤ) →
     Walked s w r x h h e e′ u u
-walked-said {es} {s} {w} {r} p q k a x h u = walked-put [] q k (rw p (no-rows h (w .«held_at»))) a x u
+walked-said {es} {s} {w} {r} p q k a x h u = walked-put [] q k (rw p (rows-none heldRow h (w .«held_at»))) a x u
 
 -- nothing was done
 pub walked-still :
@@ -102,7 +91,7 @@ walked-noted {v} {s} {w} {r} {x} {u} p q k a h e =
       last = refl;
       rows = [];
       whole = refl;
-      held = rw p (no-rows h (w .«held_at»));
+      held = rw p (rows-none heldRow h (w .«held_at»));
       said = rw q (said-none e (w .at));
       noted = notings-one x u (w .count) v a;
     })
@@ -129,18 +118,13 @@ module _ (m : Message) (p : Path) (new : Means Place) (s : Paying Place) {k : Co
   unfolding firstMeans
   beside-transfers e = rw e
 
--- rows, one list behind the other
-rows-append : (hs gs : List (Held Place)) → heldRows hs ++ heldRows gs ≡ heldRows (hs ++ gs)
-unfolding heldRows
-rows-append [] gs = refl
-rows-append (h ∷ hs) gs = append-assoc (heldRow h) (heldRows hs) (heldRows gs) ∙ ap (λ (l : List ℤ). heldRow h ++ l) (rows-append hs gs)
-
+-- transfers, one list behind the other
 pub held-then :
     {l l′ l″ : List ℤ} {at a b : ℕ} (ts us : List (Transfer Place)) →
-    Placed l at (heldRows (map transfer ts)) l′ a →
-    Placed l′ a (heldRows (map transfer us)) l″ b →
-    Placed l at (heldRows (map transfer (ts ++ us))) l″ b
-held-then {l} {l′} {l″} {at} ts us p q = as-row l at (rows-append (map transfer ts) (map transfer us) ∙ ap heldRows (sym (map-append transfer ts us))) (placed-then p q)
+    Placed l at (rowsOf heldRow (map transfer ts)) l′ a →
+    Placed l′ a (rowsOf heldRow (map transfer us)) l″ b →
+    Placed l at (rowsOf heldRow (map transfer (ts ++ us))) l″ b
+held-then {l} {l′} {l″} {at} ts us p q = as-row l at (ap (rowsOf heldRow) (sym (map-append transfer ts us))) (rows-then heldRow (map transfer ts) (map transfer us) p q)
 
 -- one child more
 pub walked-then :

@@ -1,4 +1,3 @@
 pub mod Parts
 pub mod Walks
-pub mod Acted
 pub mod Walked

@@ -4,11 +4,11 @@ use mathlib.Core.List.{List, _++_, map}
 use Prim.Native.Nat.{ℕ}
 use lib.IntN.{ℤ}
 use Rattle.report.specs.Rows.{Place, Transfer, transfer}
+use Rattle.report.specs.Encoding.{heldRow, rowsOf}
 use Rattle.report.specs.Placed.{Placed}
 use Rattle.settlement.specs.Payments.{Paying}
 use Rattle.values.specs.Told.{Said}
 use Rattle.unmapped.specs.Noting.{notings, Noted}
-use Rattle.payment.specs.Acted.{heldRows}
 use Rattle.payment.specs.Walks.{paymentOf, waits, waitingRows}
 use Rattle.payment.specs.declared.paying.Walk as Code
 
@@ -18,6 +18,6 @@ pub record Walked (s : Paying Place) (w r : Code.Walk) (x : List ℕ) (h h′ e 
   pub last : waits (r .waiting) ≡ s .last
   pub rows : List (Transfer Place)
   pub whole : s .rows ≡ rows ++ waitingRows (r .waiting)
-  pub held : Placed h (w .«held_at») (heldRows (map transfer rows)) h′ (r .«held_at»)
+  pub held : Placed h (w .«held_at») (rowsOf heldRow (map transfer rows)) h′ (r .«held_at»)
   pub said : Said (s .says) e (w .at) e′ (r .at)
   pub noted : Noted (notings x u (w .count) (s .strays)) u′ (r .count)

@@ -6,10 +6,10 @@ ghost use Prim.Native.Nat.{ℕ};
 ghost use lib.IntN.{ℤ};
 ghost use Rattle.report.specs.Rows.{transfer};
 ghost use Rattle.report.specs.Values.{textOf, transferOf};
+ghost use Rattle.report.specs.Encoding.{heldRow, rowsOf};
 ghost use Rattle.report.specs.Placed.{Placed};
 ghost use Rattle.settlement.specs.Payments.{creditorAccount, institution, joined, lost, providerOf, part};
 ghost use Rattle.element.specs.LinkDoc.{linkDoc};
-ghost use Rattle.payment.specs.Acted.{heldRows};
 ghost use Rattle.payment.specs.Walks.{waitingRows, payingOf};
 ghost use Rattle.payment.specs.Walked.{Walked};
 use crate::means::account_of;
@@ -26,7 +26,7 @@ use report::Transfer;
 
 // Puts the row of the account that waits, if one does, and answers where the next goes.
 pub(crate) fn put_waiting(held: &mut [i64], held_at: usize, waiting: Waiting) -> usize
-    ensures { λ r. ⌜ Placed (now (held .entry)) «held_at» (heldRows (map transfer (waitingRows waiting))) (now (held .exit)) r ⌝ }
+    ensures { λ r. ⌜ Placed (now (held .entry)) «held_at» (rowsOf heldRow (map transfer (waitingRows waiting))) (now (held .exit)) r ⌝ }
 {
     match waiting {
         Waiting::Nothing => held_at,

@@ -3,7 +3,7 @@ ghost use mathlib.Core.List.{List, foldl};
 ghost use lib.IntN.{ℤ};
 ghost use Rattle.settlement.specs.Payments.{unknown, part, paying, paymentMeansOf};
 ghost use Rattle.element.specs.LinkDoc.{linkDoc};
-ghost use Rattle.payment.specs.Acted.{Acted};
+ghost use Rattle.unmapped.specs.Acted.{Acted};
 ghost use Rattle.payment.specs.Walks.{paymentOf, payingOf};
 ghost use Rattle.payment.specs.Walked.{Walked};
 use crate::accounts::creditor_account;

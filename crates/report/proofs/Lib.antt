@@ -2,3 +2,4 @@ pub mod Placing
 pub mod Cells
 pub mod Widths
 pub mod Meanings
+pub mod RowsOf

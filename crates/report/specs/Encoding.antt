@@ -125,3 +125,8 @@ heldRow (preceding p) = filled (pos 5 ∷ placeCells (p .reference) ++ orAbsent 
 -- parent and name
 unfoldable pub unmappedRow : Unmapped Place → List ℤ
 unmappedRow u = pos (parentNumber (u .parent)) ∷ placeCells (u .name)
+
+-- rows one after the other
+unfoldable pub rowsOf : {A : Type 0} → (A → List ℤ) → List A → List ℤ
+rowsOf row [] = []
+rowsOf row (a ∷ l) = row a ++ rowsOf row l

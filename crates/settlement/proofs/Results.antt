@@ -1,38 +1,32 @@
 -- Laws of what a call answers in numbers.
-use mathlib.Core.Path.{_≡_, refl, _∙_}
-use mathlib.Core.List.{List, [], _∷_}
-use Prim.Native.Nat.{ℕ, _*_}
+use mathlib.Core.Path.{_≡_, refl}
+use mathlib.Core.List.{[], _∷_}
+use Prim.Native.Nat.{_*_}
 use native.Mathlib.Omega.{arith}
-use native.Mathlib.Nat.{mul-suc}
-use lib.IntN.{ℤ, pos}
-use lib.ListN.{length, length-append}
-use Rattle.report.specs.Encoding.{absent, heldWidth, entryWidth, unmappedWidth}
+use lib.IntN.{pos}
+use lib.ListN.{length}
+use Rattle.report.specs.Encoding.{absent, heldWidth, entryWidth, unmappedWidth, heldRow, entryRow, unmappedRow}
+use Rattle.report.proofs.RowsOf.{rows-length}
 use Rattle.report.proofs.Widths.{held-width, entry-width, unmapped-width}
 use Rattle.settlement.specs.Settlement.{termsOf, debitOf, debited}
 use Rattle.settlement.specs.Outcome.{Outcome, refused, read}
-use Rattle.settlement.specs.Result.{termsRow, blankTerms, rowsOf, resultOf}
-
--- rows of one width have so many numbers
-rows-length : {A : Type 0} (w : ℕ) (row : A → List ℤ) → ((a : A) → length (row a) ≡ w) → (l : List A) → w * length l ≡ length (rowsOf row l)
-unfolding rowsOf
-rows-length w row h [] = omega arith
-rows-length w row h (a ∷ l) = mul-suc w (length l) ∙ rw (length-append, h a, ← rows-length w row h l) (omega arith)
+use Rattle.settlement.specs.Result.{termsRow, blankTerms, resultOf}
 
 -- the counts times 14, 6 and 3 are the lengths of the rows
 pub held-numbers : (o : Outcome) → heldWidth * resultOf o .heldCount ≡ length (resultOf o .held)
 unfolding resultOf
 held-numbers (refused n r) = refl
-held-numbers (read r) = rows-length heldWidth _ held-width (r .held)
+held-numbers (read r) = omega (arith, rows-length heldRow heldWidth held-width (r .held))
 
 pub entry-numbers : (o : Outcome) → entryWidth * resultOf o .entryCount ≡ length (resultOf o .entries)
 unfolding resultOf
 entry-numbers (refused n r) = refl
-entry-numbers (read r) = rows-length entryWidth _ entry-width (r .entries)
+entry-numbers (read r) = omega (arith, rows-length entryRow entryWidth entry-width (r .entries))
 
 pub unmapped-numbers : (o : Outcome) → unmappedWidth * resultOf o .unmappedCount ≡ length (resultOf o .unmapped)
 unfolding resultOf
 unmapped-numbers (refused n r) = refl
-unmapped-numbers (read r) = rows-length unmappedWidth _ unmapped-width (r .unmapped)
+unmapped-numbers (read r) = omega (arith, rows-length unmappedRow unmappedWidth unmapped-width (r .unmapped))
 
 -- blank terms in numbers: every text -1, 0, every date -1, every group and every amount that may be absent 0
 pub blank-numbers :

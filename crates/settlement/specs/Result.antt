@@ -6,7 +6,7 @@ use Prim.Native.Nat.{ℕ}
 use lib.IntN.{ℤ, pos}
 use lib.ListN.{length}
 use Rattle.report.specs.Rows.{Place}
-use Rattle.report.specs.Encoding.{textCells, placeCells, amountCells, orAbsent, heldRow, entryRow, unmappedRow}
+use Rattle.report.specs.Encoding.{textCells, placeCells, amountCells, orAbsent, heldRow, entryRow, unmappedRow, rowsOf}
 use Rattle.settlement.specs.Shapes.{Identifier, Payee, Means, unset, card, debit, transfers, Period, Totals, blank, Terms}
 use Rattle.settlement.specs.Settlement.{termsOf}
 use Rattle.settlement.specs.Outcome.{Outcome, refused, read}
@@ -75,11 +75,6 @@ termsRow t =
 -- blank terms: nothing present, BT-106, 109, 112 and 115 at 0
 abbrev pub blankTerms : Terms Place
 blankTerms = termsOf (blank Place)
-
--- rows one after the other
-unfoldable pub rowsOf : {A : Type 0} → (A → List ℤ) → List A → List ℤ
-rowsOf row [] = []
-rowsOf row (a ∷ l) = row a ++ rowsOf row l
 
 -- refusal number (0: read) and record, the terms, how many rows there are of each kind, and their numbers
 pub record Result : Type 0 where

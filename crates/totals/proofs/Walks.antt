@@ -11,6 +11,8 @@ use Rattle.amount.specs.declared.amount.InvoiceAmount as Money
 use Rattle.links.specs.Links.{link, chain}
 use Rattle.links.proofs.Chains.{fold-start, fold-turn, fold-zero, fold-out}
 use Rattle.report.specs.Rows.{Place}
+use Rattle.report.specs.Encoding.{heldRow}
+use Rattle.report.proofs.RowsOf.{rows-none}
 use Rattle.settlement.specs.Document.{Doc, maybe}
 use Rattle.settlement.specs.Shapes.{Currencies}
 use Rattle.settlement.specs.Summation.{Sum, required, allowanceTotal, chargeTotal, taxTotal, rounding, prepaid, Summing, withVat, sumOf, taxAmount, taxIn, taxTotalOf, summand, summing, summed, totals}
@@ -20,9 +22,10 @@ use Rattle.element.specs.LinkDoc.{linkDoc}
 use Rattle.values.specs.Sites.{lentOf}
 use Rattle.values.specs.Told.{Told}
 use Rattle.values.proofs.Telling.{said-none, said-then}
+use Rattle.unmapped.specs.Acted.{Acted}
 use Rattle.unmapped.proofs.Notings.{notings-none, notings-then}
 use Rattle.totals.specs.State.{sumsOf, unread, amounts, Did}
-use Rattle.totals.specs.Reading.{lineTotal, taxBasisTotal, grandTotal, duePayable, totalled, duesSaid, Ended, Read}
+use Rattle.totals.specs.Reading.{lineTotal, taxBasisTotal, grandTotal, duePayable, totalled, duesSaid, Ended, totalsOf}
 use Rattle.totals.specs.declared.state.Summing as State
 use Rattle.totals.specs.declared.state.TotalsSaid as Code
 use Rattle.totals.proofs.Steps.{over, append-nil, tax-over}
@@ -108,13 +111,19 @@ module _ (mode rules : ℕ) (currency : List ℕ) (D : Doc ℕ Place) (cur : Cur
   unfolding summed
   summed-lent = fold-lent unread (D .kids n)
 
-  -- the totals of the amounts that the children made
-  pub totals-read : (x : List ℕ) (at k : ℕ) (e u : List ℤ) {s : State.Summing} {r : Code.TotalsSaid} {e′ e″ u′ : List ℤ} → Did x (summed (lentOf mode 0 currency) D cur n) at k e u s e′ u′ → Ended (totalled (lentOf mode rules currency) D n (sumsOf (s .sums))) (duesSaid (lentOf mode rules currency) D n) (s .at) (s .count) e′ r e″ → Read x (totals (lentOf mode rules currency) D cur n) at k e u r e″ u′
+  -- the totals of the amounts that the children made; a summation holds nothing
+  pub totals-read :
+      (x : List ℕ) (at k : ℕ) (e u : List ℤ) {s : State.Summing} {r : Code.TotalsSaid} {e′ e″ u′ : List ℤ} →
+      Did x (summed (lentOf mode 0 currency) D cur n) at k e u s e′ u′ →
+      Ended (totalled (lentOf mode rules currency) D n (sumsOf (s .sums))) (duesSaid (lentOf mode rules currency) D n) (s .at) (s .count) e′ r e″ →
+      (h : List ℤ) (heldAt : ℕ) →
+      Acted (totals (lentOf mode rules currency) D cur n) x (some (totalsOf (r .totals))) h heldAt h heldAt e at e″ (r .at) u k u′ (r .count)
   unfolding totals
-  totals-read x at k e u {s} {r} {e′} {e″} {u′} p q =
+  totals-read x at k e u {s} {r} {e′} {e″} {u′} p q h heldAt =
       let p′ : Did x (summed (lentOf mode rules currency) D cur n) at k e u s e′ u′ = subst (λ (a : Summing Place). Did x a at k e u s e′ u′) summed-lent p in
       record {
-        next = ap some (q .same ∙ ap (totalled (lentOf mode rules currency) D n) (p′ .same));
+        same = ap some (q .same ∙ ap (totalled (lentOf mode rules currency) D n) (p′ .same));
+        held = rows-none heldRow h heldAt;
         said = said-then (p′ .said) (q .said);
         noted = rw (q .count′) (p′ .noted);
       }

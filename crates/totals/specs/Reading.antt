@@ -1,7 +1,6 @@
 -- What a reading of a summation did.
 use mathlib.Core.Path.{_≡_}
 use mathlib.Core.List.{List, _++_}
-use mathlib.Core.Option.{Option, some}
 use Prim.Native.Nat.{ℕ}
 use lib.IntN.{ℤ}
 use Rattle.text.specs.Utf8.{bytes}
@@ -15,11 +14,10 @@ use Rattle.report.specs.Rows.{Place, Entry}
 use Rattle.report.specs.Values.{textOf, amountOf}
 use Rattle.report.specs.declared.value.Text.{Text}
 use Rattle.settlement.specs.Document.{Doc}
-use Rattle.settlement.specs.Shapes.{Totals, Currencies, Act}
+use Rattle.settlement.specs.Shapes.{Totals, Currencies}
 use Rattle.settlement.specs.Summation.{Summing}
 use Rattle.settlement.specs.Values.{Lent, Says, site, requiredAmount}
 use Rattle.values.specs.Told.{Said}
-use Rattle.unmapped.specs.Noting.{notings, Noted}
 use Rattle.totals.specs.declared.state.Totals as Code
 use Rattle.totals.specs.declared.state.TotalsSaid as CodeSaid
 
@@ -73,9 +71,3 @@ pub record Ended (t : Totals) (es : List (Entry Place)) (at count : ℕ) (entrie
   pub same : totalsOf (r .totals) ≡ t
   pub said : Said es entries at entries′ (r .at)
   pub count′ : r .count ≡ count
-
--- the totals are the lane's next state, the entries were put, and the unmapped elements were noted
-pub record Read (x : List ℕ) (a : Act Place (Option Totals)) (at count : ℕ) (entries unmapped : List ℤ) (r : CodeSaid.TotalsSaid) (entries′ unmapped′ : List ℤ) : Type 0 where
-  pub next : some (totalsOf (r .totals)) ≡ a .next
-  pub said : Said (a .says) entries at entries′ (r .at)
-  pub noted : Noted (notings x unmapped count (a .strays)) unmapped′ (r .count)

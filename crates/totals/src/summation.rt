@@ -1,8 +1,13 @@
 // The reader of a monetary summation.
+ghost use mathlib.Core.List.{List};
+ghost use mathlib.Core.Option.{some};
+ghost use Prim.Native.Nat.{ℕ};
+ghost use lib.IntN.{ℤ};
 ghost use Rattle.settlement.specs.Summation as reading;
 ghost use Rattle.element.specs.LinkDoc.{linkDoc};
 ghost use Rattle.values.specs.Sites.{lentOf};
-ghost use Rattle.totals.specs.Reading.{currencies, Read};
+ghost use Rattle.unmapped.specs.Acted.{Acted};
+ghost use Rattle.totals.specs.Reading.{currencies, totalsOf};
 use crate::children::summed;
 use crate::required::totalled;
 use crate::state::TotalsSaid;
@@ -25,7 +30,7 @@ pub fn totals(
     bt6: Text,
     n: usize,
 ) -> TotalsSaid
-    ensures { λ r. ⌜ Read (now (text .entry)) (reading.totals (lentOf mode rules (now (currency .entry))) (linkDoc (now (table .entry)) (now (text .entry)) (now (links .entry))) (currencies bt5 bt6) n) at count (now (entries .entry)) (now (unmapped .entry)) r (now (entries .exit)) (now (unmapped .exit)) ⌝ }
+    ensures { λ r. ⌜ ((h : List ℤ) (heldAt : ℕ) → Acted (reading.totals (lentOf mode rules (now (currency .entry))) (linkDoc (now (table .entry)) (now (text .entry)) (now (links .entry))) (currencies bt5 bt6) n) (now (text .entry)) (some (totalsOf (r .totals))) h heldAt h heldAt (now (entries .entry)) at (now (entries .exit)) (r .at) (now (unmapped .entry)) count (now (unmapped .exit)) (r .count)) ⌝ }
 {
     let s = summed(
         table,

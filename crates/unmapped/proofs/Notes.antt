@@ -11,6 +11,7 @@ use Rattle.text.proofs.Orders.{order-is, order-turned, order-trans}
 use Rattle.names.specs.Put.{put}
 use Rattle.names.proofs.Puts.{put-none, length-put}
 use Rattle.report.specs.Rows.{Place, Unmapped}
+use Rattle.report.specs.Encoding.{unmappedRow, rowsOf}
 use Rattle.settlement.specs.Document.{Doc}
 use Rattle.settlement.specs.Settlement.{unmappedKey, unmappedOrder}
 use Rattle.settlement.specs.Sorted.{Ascending}
@@ -22,7 +23,7 @@ use Rattle.unmapped.specs.declared.search.Spot.{Spot}
 use Rattle.unmapped.specs.Row.{elementKey, elementOrder, standing}
 use Rattle.unmapped.specs.Search.{sought}
 use Rattle.unmapped.specs.Noting.{Rows, inserted, atSpot, noting, Noted}
-use Rattle.unmapped.specs.Listed.{unmappedRows, Listed}
+use Rattle.unmapped.specs.Listed.{Listed}
 use Rattle.unmapped.proofs.Places.{Met, taken, free, halve-met, insert-taken, insert-free, ascending-before}
 use Rattle.unmapped.proofs.RowsBack.{back-key, back-inserted}
 
@@ -68,12 +69,12 @@ insert-length {A} c u (b ∷ l) = go (c u b) (insert-length c u l)
     go Ordering·gt h = omega arith
 
 -- the rows of elements at the front of a list
-abbrev rowsOf : List ℤ → List (Unmapped Place) → Rows
-rowsOf lent us = record { list = put lent 0 (unmappedRows us); count = length us }
+abbrev front : List ℤ → List (Unmapped Place) → Rows
+front lent us = record { list = put lent 0 (rowsOf unmappedRow us); count = length us }
 
 module _ (x : List ℕ) (lent : List ℤ) (us : List (Unmapped Place)) (u : Unmapped Place) (room : (length us + 1) * 3 ≤ length lent) (sorted : Ascending (elementOrder x) us) where
   -- how the element stands to a row is how it stands to the row's element
-  stands : (k : ℕ) → k < length us → standing x (put lent 0 (unmappedRows us)) u k ≡ elementOrder x u (getD us k u)
+  stands : (k : ℕ) → k < length us → standing x (put lent 0 (rowsOf unmappedRow us)) u k ≡ elementOrder x u (getD us k u)
   unfolding standing elementOrder
   stands k h = ap (order (elementKey x u)) (back-key lent us (omega arith) x k u h)
 
@@ -81,27 +82,27 @@ module _ (x : List ℕ) (lent : List ℤ) (us : List (Unmapped Place)) (u : Unma
     rising : elementOrder x (getD us i u) (getD us j u) ≡ Ordering·lt
     rising = ascending-before (elementOrder x) (key-trans x) us u i j sorted p q
 
-    later : standing x (put lent 0 (unmappedRows us)) u i ≡ Ordering·lt → standing x (put lent 0 (unmappedRows us)) u j ≡ Ordering·lt
+    later : standing x (put lent 0 (rowsOf unmappedRow us)) u i ≡ Ordering·lt → standing x (put lent 0 (rowsOf unmappedRow us)) u j ≡ Ordering·lt
     later e = stands j q ∙ key-trans x u (getD us i u) (getD us j u) (sym (stands i (omega arith)) ∙ e) rising
 
-    above : elementOrder x (getD us i u) u ≡ Ordering·lt → standing x (put lent 0 (unmappedRows us)) u i ≡ Ordering·gt
+    above : elementOrder x (getD us i u) u ≡ Ordering·lt → standing x (put lent 0 (rowsOf unmappedRow us)) u i ≡ Ordering·gt
     above e = stands i (omega arith) ∙ key-turned x (getD us i u) u ∙ ap opposite e
 
-    same : standing x (put lent 0 (unmappedRows us)) u j ≡ Ordering·eq → standing x (put lent 0 (unmappedRows us)) u i ≡ Ordering·gt
+    same : standing x (put lent 0 (rowsOf unmappedRow us)) u j ≡ Ordering·eq → standing x (put lent 0 (rowsOf unmappedRow us)) u i ≡ Ordering·gt
     same e = above (key-same x (getD us i u) (getD us j u) u (sym (stands j q) ∙ e) rising)
 
-    earlier : standing x (put lent 0 (unmappedRows us)) u j ≡ Ordering·gt → standing x (put lent 0 (unmappedRows us)) u i ≡ Ordering·gt
+    earlier : standing x (put lent 0 (rowsOf unmappedRow us)) u j ≡ Ordering·gt → standing x (put lent 0 (rowsOf unmappedRow us)) u i ≡ Ordering·gt
     earlier e = above (key-trans x (getD us i u) (getD us j u) u rising (key-turned x u (getD us j u) ∙ ap opposite (sym (stands j q) ∙ e)))
 
-  met : Met (standing x (put lent 0 (unmappedRows us)) u) (length us) (sought x (put lent 0 (unmappedRows us)) (length us) u)
+  met : Met (standing x (put lent 0 (rowsOf unmappedRow us)) u) (length us) (sought x (put lent 0 (rowsOf unmappedRow us)) (length us) u)
   unfolding sought
   met =
-      halve-met (standing x (put lent 0 (unmappedRows us)) u) (length us) later same earlier (length us) 0 (length us) (omega arith) (omega arith) (omega arith)
+      halve-met (standing x (put lent 0 (rowsOf unmappedRow us)) u) (length us) later same earlier (length us) 0 (length us) (omega arith) (omega arith) (omega arith)
       (λ i p. absurd (omega arith))
       (λ i p q. absurd (omega arith))
 
   -- at the spot that was found stands what insertion makes
-  at-spot : {s : Spot} → Met (standing x (put lent 0 (unmappedRows us)) u) (length us) s → atSpot s (put lent 0 (unmappedRows us)) (length us) u ≡ rowsOf lent (insert (elementOrder x) u us)
+  at-spot : {s : Spot} → Met (standing x (put lent 0 (rowsOf unmappedRow us)) u) (length us) s → atSpot s (put lent 0 (rowsOf unmappedRow us)) (length us) u ≡ front lent (insert (elementOrder x) u us)
   unfolding inserted
   at-spot (taken k h e g) =
       rw (insert-taken (elementOrder x) u us k h (sym (stands k h) ∙ e) (λ i p. sym (stands i (omega arith)) ∙ g i p))
@@ -110,20 +111,20 @@ module _ (x : List ℕ) (lent : List ℤ) (us : List (Unmapped Place)) (u : Unma
       let m : length us + 1 ≡ length (take k us ++ u ∷ drop k us) = omega (arith, n, length-take k us, length-drop k us) in
       rw (insert-free (elementOrder x) u us k h (λ i p. sym (stands i (omega arith)) ∙ g i p) (λ i p q. sym (stands i q) ∙ f i p q), back-inserted lent us (omega arith) k h u, m)
 
-  noting-inserts : noting x (put lent 0 (unmappedRows us)) (length us) u ≡ rowsOf lent (insert (elementOrder x) u us)
+  noting-inserts : noting x (put lent 0 (rowsOf unmappedRow us)) (length us) u ≡ front lent (insert (elementOrder x) u us)
   unfolding noting
   noting-inserts =
-      let e = length-put lent 0 (unmappedRows us) in
-      rw (lt-leb (length (put lent 0 (unmappedRows us)) / 3) (length us) (omega arith)) (at-spot met)
+      let e = length-put lent 0 (rowsOf unmappedRow us) in
+      rw (lt-leb (length (put lent 0 (rowsOf unmappedRow us)) / 3) (length us) (omega arith)) (at-spot met)
 
 -- no elements yet
 pub listed-none : (x : List ℕ) (lent : List ℤ) → Listed x lent [] lent 0
-unfolding unmappedRows
+unfolding rowsOf
 listed-none x lent = record { rows = sym (put-none lent 0); count = refl; sorted = tt; room = omega arith }
 
 module _ {x : List ℕ} {lent now : List ℤ} {us : List (Unmapped Place)} {n : ℕ} (u : Unmapped Place) (l : Listed x lent us now n) (room : (length us + 1) * 3 ≤ length lent) where
-  noting-is : noting x now n u ≡ rowsOf lent (insert (elementOrder x) u us)
-  noting-is = ap (λ (m : List ℤ). noting x m n u) (l .rows) ∙ ap (λ (k : ℕ). noting x (put lent 0 (unmappedRows us)) k u) (l .count) ∙ noting-inserts x lent us u room (l .sorted)
+  noting-is : noting x now n u ≡ front lent (insert (elementOrder x) u us)
+  noting-is = ap (λ (m : List ℤ). noting x m n u) (l .rows) ∙ ap (λ (k : ℕ). noting x (put lent 0 (rowsOf unmappedRow us)) k u) (l .count) ∙ noting-inserts x lent us u room (l .sorted)
 
   -- where there is room for one row more, the list is then that of the elements with one inserted
   pub noted : Listed x lent (insert (elementOrder x) u us) (noting x now n u .list) (noting x now n u .count)

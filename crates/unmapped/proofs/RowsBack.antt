@@ -1,7 +1,7 @@
 -- Rows that stand one after the other at the front of a list, read back.
 use mathlib.Core.Path.{_≡_, refl, sym, ap, _∙_}
 use mathlib.Core.Bool.{Bool, true, false, cond}
-use mathlib.Core.List.{List, [], _∷_, _++_, append-assoc}
+use mathlib.Core.List.{List, [], _∷_, _++_}
 use Prim.Native.Nat.{ℕ, zero, suc, _+_, _-_, _*_, _≤_, _<_}
 use native.Mathlib.Omega.{arith}
 use borrow.Author.Tests.{eqb-true}
@@ -13,33 +13,22 @@ use Rattle.text.specs.Span.{clipped}
 use Rattle.names.specs.Put.{put}
 use Rattle.names.proofs.Puts.{put-put, put-eq, put-at, put-again}
 use Rattle.report.specs.Rows.{Place, Unmapped}
-use Rattle.report.specs.Encoding.{tidy, unmappedRow}
+use Rattle.report.specs.Encoding.{tidy, unmappedRow, rowsOf}
 use Rattle.report.proofs.Widths.{unmapped-width}
+use Rattle.report.proofs.RowsOf.{rows-length, rows-append}
 use Rattle.settlement.specs.TableDoc.{shows}
 use Rattle.unmapped.specs.Row.{orZero, number, rowKey, elementKey}
-use Rattle.unmapped.specs.Listed.{unmappedRows}
-
--- three numbers each
-pub rows-length : (us : List (Unmapped Place)) → length (unmappedRows us) ≡ length us * 3
-unfolding unmappedRows
-rows-length [] = refl
-rows-length (u ∷ us) = length-append (unmappedRow u) (unmappedRows us) ∙ omega (arith, unmapped-width u, rows-length us)
-
-pub rows-append : (us vs : List (Unmapped Place)) → unmappedRows (us ++ vs) ≡ unmappedRows us ++ unmappedRows vs
-unfolding unmappedRows
-rows-append [] vs = refl
-rows-append (u ∷ us) vs = ap (λ (r : List ℤ). unmappedRow u ++ r) (rows-append us vs) ∙ sym (append-assoc (unmappedRow u) (unmappedRows us) (unmappedRows vs))
 
 -- number j of row k
-rows-at : (us : List (Unmapped Place)) (k j : ℕ) (d : Unmapped Place) → k < length us → j < 3 → getD (unmappedRows us) (k * 3 + j) (pos 0) ≡ getD (unmappedRow (getD us k d)) j (pos 0)
-unfolding unmappedRows
+rows-at : (us : List (Unmapped Place)) (k j : ℕ) (d : Unmapped Place) → k < length us → j < 3 → getD (rowsOf unmappedRow us) (k * 3 + j) (pos 0) ≡ getD (unmappedRow (getD us k d)) j (pos 0)
+unfolding rowsOf
 rows-at [] k j d h h′ = absurd (omega arith)
 rows-at (u ∷ us) zero j d h h′ =
     let e : zero * 3 + j ≡ j = omega arith in
-    ap (λ (i : ℕ). getD (unmappedRow u ++ unmappedRows us) i (pos 0)) e ∙ List·getD-append (unmappedRow u) (unmappedRows us) (pos 0) j (omega (arith, unmapped-width u))
+    ap (λ (i : ℕ). getD (unmappedRow u ++ rowsOf unmappedRow us) i (pos 0)) e ∙ List·getD-append (unmappedRow u) (rowsOf unmappedRow us) (pos 0) j (omega (arith, unmapped-width u))
 rows-at (u ∷ us) (suc k) j d h h′ =
     let e : suc k * 3 + j ≡ length (unmappedRow u) + (k * 3 + j) = omega (arith, unmapped-width u) in
-    ap (λ (i : ℕ). getD (unmappedRow u ++ unmappedRows us) i (pos 0)) e ∙ getD-append-add (unmappedRow u) (unmappedRows us) (k * 3 + j) (pos 0) ∙ rows-at us k j d (omega arith) h′
+    ap (λ (i : ℕ). getD (unmappedRow u ++ rowsOf unmappedRow us) i (pos 0)) e ∙ getD-append-add (unmappedRow u) (rowsOf unmappedRow us) (k * 3 + j) (pos 0) ∙ rows-at us k j d (omega arith) h′
 
 -- a place as a row shows it shows the same bytes: an empty one none
 tidy-shows : (x : List ℕ) (p : Place) → clipped x (tidy p .start) (p .len) ≡ shows x p
@@ -51,46 +40,46 @@ tidy-shows x p = go (eqb (p .len) 0) refl
     go false e = refl
 
 module _ (lent : List ℤ) (us : List (Unmapped Place)) (room : length us * 3 ≤ length lent) where
-  back-number : (k j : ℕ) (d : Unmapped Place) → k < length us → j < 3 → number (put lent 0 (unmappedRows us)) k j ≡ orZero (getD (unmappedRow (getD us k d)) j (pos 0))
+  back-number : (k j : ℕ) (d : Unmapped Place) → k < length us → j < 3 → number (put lent 0 (rowsOf unmappedRow us)) k j ≡ orZero (getD (unmappedRow (getD us k d)) j (pos 0))
   unfolding number
   back-number k j d h h′ =
       let e : 0 + (k * 3 + j) ≡ k * 3 + j = omega arith in
-      let p = put-at (unmappedRows us) lent 0 (k * 3 + j) (pos 0) (omega (arith, rows-length us)) (omega arith) in
-      ap orZero (sym (ap (λ (i : ℕ). getD (put lent 0 (unmappedRows us)) i (pos 0)) e) ∙ p ∙ rows-at us k j d h h′)
+      let p = put-at (rowsOf unmappedRow us) lent 0 (k * 3 + j) (pos 0) (omega (arith, rows-length unmappedRow 3 unmapped-width us)) (omega arith) in
+      ap orZero (sym (ap (λ (i : ℕ). getD (put lent 0 (rowsOf unmappedRow us)) i (pos 0)) e) ∙ p ∙ rows-at us k j d h h′)
 
   -- a row's key is its element's
-  pub back-key : (x : List ℕ) (k : ℕ) (d : Unmapped Place) → k < length us → rowKey x (put lent 0 (unmappedRows us)) k ≡ elementKey x (getD us k d)
+  pub back-key : (x : List ℕ) (k : ℕ) (d : Unmapped Place) → k < length us → rowKey x (put lent 0 (rowsOf unmappedRow us)) k ≡ elementKey x (getD us k d)
   unfolding rowKey elementKey unmappedRow
   back-key x k d h =
       rw (back-number k 0 d h (omega arith), back-number k 1 d h (omega arith), back-number k 2 d h (omega arith), tidy-shows x (getD us k d .name))
 
   -- the rows before row k and from it on
   module _ (k : ℕ) (h : k ≤ length us) where
-    rows-split : unmappedRows us ≡ unmappedRows (take k us) ++ unmappedRows (drop k us)
-    rows-split = ap unmappedRows (sym (take-append-drop k us)) ∙ rows-append (take k us) (drop k us)
+    rows-split : rowsOf unmappedRow us ≡ rowsOf unmappedRow (take k us) ++ rowsOf unmappedRow (drop k us)
+    rows-split = ap (rowsOf unmappedRow) (sym (take-append-drop k us)) ∙ rows-append unmappedRow (take k us) (drop k us)
 
-    rows-before : length (unmappedRows (take k us)) ≡ k * 3
-    rows-before = rows-length (take k us) ∙ ap (λ (n : ℕ). n * 3) (length-take-le k us h)
+    rows-before : length (rowsOf unmappedRow (take k us)) ≡ k * 3
+    rows-before = rows-length unmappedRow 3 unmapped-width (take k us) ∙ ap (λ (n : ℕ). n * 3) (length-take-le k us h)
 
-    back-slice : slice (k * 3) (length us * 3) (put lent 0 (unmappedRows us)) ≡ unmappedRows (drop k us)
+    back-slice : slice (k * 3) (length us * 3) (put lent 0 (rowsOf unmappedRow us)) ≡ rowsOf unmappedRow (drop k us)
     back-slice =
-        let e = rows-length us in
-        let f = put-eq lent 0 (unmappedRows us) (omega arith) in
-        let g : take (length us * 3) (put lent 0 (unmappedRows us)) ≡ unmappedRows us = ap (take (length us * 3)) f ∙ take-at (unmappedRows us) _ (length us * 3) e in
-        ap (drop (k * 3)) (g ∙ rows-split) ∙ drop-at (unmappedRows (take k us)) (unmappedRows (drop k us)) (k * 3) rows-before
+        let e = rows-length unmappedRow 3 unmapped-width us in
+        let f = put-eq lent 0 (rowsOf unmappedRow us) (omega arith) in
+        let g : take (length us * 3) (put lent 0 (rowsOf unmappedRow us)) ≡ rowsOf unmappedRow us = ap (take (length us * 3)) f ∙ take-at (rowsOf unmappedRow us) _ (length us * 3) e in
+        ap (drop (k * 3)) (g ∙ rows-split) ∙ drop-at (rowsOf unmappedRow (take k us)) (rowsOf unmappedRow (drop k us)) (k * 3) rows-before
 
     -- a row before row k, the later ones behind it
-    pub back-inserted : (u : Unmapped Place) → put (put lent 0 (unmappedRows us)) (k * 3) (unmappedRow u ++ slice (k * 3) (length us * 3) (put lent 0 (unmappedRows us))) ≡ put lent 0 (unmappedRows (take k us ++ u ∷ drop k us))
-    unfolding unmappedRows
+    pub back-inserted : (u : Unmapped Place) → put (put lent 0 (rowsOf unmappedRow us)) (k * 3) (unmappedRow u ++ slice (k * 3) (length us * 3) (put lent 0 (rowsOf unmappedRow us))) ≡ put lent 0 (rowsOf unmappedRow (take k us ++ u ∷ drop k us))
+    unfolding rowsOf
     back-inserted u =
-        let a = unmappedRows (take k us) in
-        let b = unmappedRows (drop k us) in
+        let a = rowsOf unmappedRow (take k us) in
+        let b = rowsOf unmappedRow (drop k us) in
         let v = unmappedRow u ++ b in
         let n : 0 + length a ≡ k * 3 = omega (arith, rows-before) in
-        let old : put lent 0 (unmappedRows us) ≡ put (put lent 0 a) (k * 3) b = ap (put lent 0) rows-split ∙ sym (put-put a lent b 0) ∙ ap (λ (i : ℕ). put (put lent 0 a) i b) n in
-        ap (λ (w : List ℤ). put (put lent 0 (unmappedRows us)) (k * 3) (unmappedRow u ++ w)) back-slice
+        let old : put lent 0 (rowsOf unmappedRow us) ≡ put (put lent 0 a) (k * 3) b = ap (put lent 0) rows-split ∙ sym (put-put a lent b 0) ∙ ap (λ (i : ℕ). put (put lent 0 a) i b) n in
+        ap (λ (w : List ℤ). put (put lent 0 (rowsOf unmappedRow us)) (k * 3) (unmappedRow u ++ w)) back-slice
         ∙ ap (λ (m : List ℤ). put m (k * 3) v) old
         ∙ put-again b v (put lent 0 a) (k * 3) (omega (arith, length-append (unmappedRow u) b))
         ∙ ap (λ (i : ℕ). put (put lent 0 a) i v) (sym n)
         ∙ put-put a lent v 0
-        ∙ ap (put lent 0) (sym (rows-append (take k us) (u ∷ drop k us)))
+        ∙ ap (put lent 0) (sym (rows-append unmappedRow (take k us) (u ∷ drop k us)))

@@ -1,3 +1,4 @@
+pub mod Acted
 pub mod Listed
 pub mod Noting
 pub mod Row

@@ -1,38 +1,30 @@
 -- Laws of entries that are said one after another.
-use mathlib.Core.Path.{_≡_, refl, sym, ap, _∙_}
-use mathlib.Core.List.{List, [], _∷_, _++_, append-nil, append-assoc}
+use mathlib.Core.Path.{_≡_, refl, ap, _∙_}
+use mathlib.Core.List.{List, [], _∷_, _++_}
 use mathlib.Core.Option.{Option}
 use Prim.Native.Nat.{ℕ}
 use lib.IntN.{ℤ, pos}
 use lib.ListN.{length}
 use Rattle.names.proofs.Puts.{length-put}
 use Rattle.report.specs.Rows.{Place, Entry}
-use Rattle.report.specs.Encoding.{entryRow}
+use Rattle.report.specs.Encoding.{entryRow, rowsOf}
 use Rattle.report.specs.Placed.{Placed}
-use Rattle.report.proofs.Cells.{as-row}
-use Rattle.report.proofs.Placing.{placed-none, placed-then}
+use Rattle.report.proofs.RowsOf.{rows-none, rows-one, rows-then}
 use Rattle.settlement.specs.Document.{or}
 use Rattle.settlement.specs.Values.{Says}
-use Rattle.values.specs.Told.{entryRows, Said, Told}
-
-rows-append : (es fs : List (Entry Place)) → entryRows es ++ entryRows fs ≡ entryRows (es ++ fs)
-unfolding entryRows
-rows-append [] fs = refl
-rows-append (e ∷ es) fs = append-assoc (entryRow e) (entryRows es) (entryRows fs) ∙ ap (λ (k : List ℤ). entryRow e ++ k) (rows-append es fs)
+use Rattle.values.specs.Told.{Said, Told}
 
 -- one entry's row
 pub said-one : {e : Entry Place} {l l′ : List ℤ} {at r : ℕ} → Placed l at (entryRow e) l′ r → Said (e ∷ []) l at l′ r
-unfolding entryRows
-said-one {e} {l} {l′} {at} p = record { rows = as-row l at (sym (append-nil (entryRow e))) p }
+said-one {e} p = record { rows = rows-one entryRow e p }
 
 -- nothing is said
 pub said-none : (l : List ℤ) (at : ℕ) → Said [] l at l at
-unfolding entryRows
-said-none l at = record { rows = placed-none l at }
+said-none l at = record { rows = rows-none entryRow l at }
 
 -- one after the other
 pub said-then : {es fs : List (Entry Place)} {l l′ l″ : List ℤ} {at a b : ℕ} → Said es l at l′ a → Said fs l′ a l″ b → Said (es ++ fs) l at l″ b
-said-then {es} {fs} {l} {l′} {l″} {at} p q = record { rows = as-row l at (rows-append es fs) (placed-then (p .rows) (q .rows)) }
+said-then {es} {fs} p q = record { rows = rows-then entryRow es fs (p .rows) (q .rows) }
 
 -- a value of which there is nothing to say
 pub told-silent : {A : Type 0} {v : A} (l : List ℤ) (at : ℕ) → Told (v, []) l at v l at
@@ -56,4 +48,4 @@ told-after p q = record { same = q .same; said = said-then p (q .said) }
 
 -- the list keeps its length
 pub said-length : {es : List (Entry Place)} {l l′ : List ℤ} {at r : ℕ} → Said es l at l′ r → length l′ ≡ length l
-said-length {es} {l} {l′} {at} p = ap length (p .rows .now) ∙ length-put l at (entryRows es)
+said-length {es} {l} {l′} {at} p = ap length (p .rows .now) ∙ length-put l at (rowsOf entryRow es)

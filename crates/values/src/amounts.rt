@@ -1,6 +1,7 @@
 // Amounts: optional, required, and a tax total's.
 ghost use mathlib.Core.Path.{_≡_};
 ghost use lib.IntN.{pos};
+ghost use Rattle.amount.specs.Answers.{amountAnswer};
 ghost use Rattle.report.specs.Values.{placeOf, amountOf};
 ghost use Rattle.settlement.specs.Document.{or};
 ghost use Rattle.settlement.specs.Values as reading;
@@ -37,7 +38,58 @@ pub struct RequiredAmount {
     pub at: usize,
 }
 
-// The amount that the text of element e spells; an empty text spells none.
+// The amount of an answer, absent where it has none.
+fn value_of(answer: ParsedAmount) -> Amount
+    ensures { λ r. ⌜ amountOf r ≡ amountAnswer answer .value ⌝ }
+{
+    match answer {
+        ParsedAmount::Amount(a) => Amount::Of(a),
+        ParsedAmount::Empty => Amount::Absent,
+        ParsedAmount::Malformed => Amount::Absent,
+        ParsedAmount::TooManyDecimals => Amount::Absent,
+        ParsedAmount::OutOfRange => Amount::Absent,
+    }
+}
+
+// The message of an answer; an empty text is malformed.
+fn message_of(answer: ParsedAmount) -> Message
+    ensures { λ r. ⌜ r ≡ reading.amountMessage (amountAnswer answer .message) ⌝ }
+{
+    match answer {
+        ParsedAmount::Amount(_) => Message::AmountMalformed,
+        ParsedAmount::Empty => Message::AmountMalformed,
+        ParsedAmount::Malformed => Message::AmountMalformed,
+        ParsedAmount::TooManyDecimals => Message::TooManyDecimals,
+        ParsedAmount::OutOfRange => Message::AmountOutOfRange,
+    }
+}
+
+// The amount of an answer, or a message about the text of element e.
+fn answered(
+    table: &[u32],
+    text: &[u8],
+    links: &[u16],
+    mode: u32,
+    entries: &mut [i64],
+    at: usize,
+    answer: ParsedAmount,
+    message: Message,
+    site: Site,
+    e: usize,
+) -> AmountSaid
+    ensures { λ r. ⌜ Told (reading.answered mode (linkDoc (now (table .entry)) (now (text .entry)) (now (links .entry))) (λ n. message) (siteOf site) e (amountAnswer answer)) (now (entries .entry)) at (amountOf (r .amount)) (now (entries .exit)) (r .at) ⌝ }
+{
+    let amount = value_of(answer);
+    match amount {
+        Amount::Absent => AmountSaid {
+            amount,
+            at: say_of(table, text, links, mode, entries, at, message, site, e),
+        },
+        Amount::Of(_) => AmountSaid { amount, at },
+    }
+}
+
+// The amount that the text of element e spells.
 fn parsed(
     table: &[u32],
     text: &[u8],
@@ -51,68 +103,19 @@ fn parsed(
     ensures { λ r. ⌜ Told (reading.parsed mode (linkDoc (now (table .entry)) (now (text .entry)) (now (links .entry))) (siteOf site) e) (now (entries .entry)) at (amountOf (r .amount)) (now (entries .exit)) (r .at) ⌝ }
 {
     let answer = InvoiceAmount::parse(element::text_bytes(table, text, links, e), mode);
-    match answer {
-        ParsedAmount::Amount(a) => AmountSaid {
-            amount: Amount::Of(a),
-            at,
-        },
-        ParsedAmount::Empty => AmountSaid {
-            amount: Amount::Absent,
-            at: say_of(
-                table,
-                text,
-                links,
-                mode,
-                entries,
-                at,
-                Message::AmountMalformed,
-                site,
-                e,
-            ),
-        },
-        ParsedAmount::Malformed => AmountSaid {
-            amount: Amount::Absent,
-            at: say_of(
-                table,
-                text,
-                links,
-                mode,
-                entries,
-                at,
-                Message::AmountMalformed,
-                site,
-                e,
-            ),
-        },
-        ParsedAmount::TooManyDecimals => AmountSaid {
-            amount: Amount::Absent,
-            at: say_of(
-                table,
-                text,
-                links,
-                mode,
-                entries,
-                at,
-                Message::TooManyDecimals,
-                site,
-                e,
-            ),
-        },
-        ParsedAmount::OutOfRange => AmountSaid {
-            amount: Amount::Absent,
-            at: say_of(
-                table,
-                text,
-                links,
-                mode,
-                entries,
-                at,
-                Message::AmountOutOfRange,
-                site,
-                e,
-            ),
-        },
-    }
+    let message = message_of(answer);
+    answered(
+        table,
+        text,
+        links,
+        mode,
+        entries,
+        at,
+        answer,
+        message,
+        site,
+        e,
+    )
 }
 
 // The same beside a currency, which must be right.
@@ -303,66 +306,17 @@ pub fn tax_amount(
         index: Index::Absent,
     };
     let answer = InvoiceAmount::parse(element::text_bytes(table, text, links, e), mode);
-    match answer {
-        ParsedAmount::Amount(a) => AmountSaid {
-            amount: Amount::Of(a),
-            at,
-        },
-        ParsedAmount::Empty => AmountSaid {
-            amount: Amount::Absent,
-            at: say_of(
-                table,
-                text,
-                links,
-                mode,
-                entries,
-                at,
-                Message::TaxTotalUnreadable,
-                site,
-                e,
-            ),
-        },
-        ParsedAmount::Malformed => AmountSaid {
-            amount: Amount::Absent,
-            at: say_of(
-                table,
-                text,
-                links,
-                mode,
-                entries,
-                at,
-                Message::TaxTotalUnreadable,
-                site,
-                e,
-            ),
-        },
-        ParsedAmount::TooManyDecimals => AmountSaid {
-            amount: Amount::Absent,
-            at: say_of(
-                table,
-                text,
-                links,
-                mode,
-                entries,
-                at,
-                Message::TaxTotalUnreadable,
-                site,
-                e,
-            ),
-        },
-        ParsedAmount::OutOfRange => AmountSaid {
-            amount: Amount::Absent,
-            at: say_of(
-                table,
-                text,
-                links,
-                mode,
-                entries,
-                at,
-                Message::TaxTotalUnreadable,
-                site,
-                e,
-            ),
-        },
-    }
+    let message = Message::TaxTotalUnreadable;
+    answered(
+        table,
+        text,
+        links,
+        mode,
+        entries,
+        at,
+        answer,
+        message,
+        site,
+        e,
+    )
 }

@@ -2,6 +2,7 @@
 ghost use mathlib.Core.Path.{_≡_};
 ghost use mathlib.Core.Bool.{true};
 ghost use Rattle.codes.specs.DateFormat.{dateFormat};
+ghost use Rattle.date.specs.Answers.{dateAnswer};
 ghost use Rattle.report.specs.Values.{textOf, dayOf};
 ghost use Rattle.settlement.specs.Document.{maybe};
 ghost use Rattle.settlement.specs.TableDoc.{shows};
@@ -35,6 +36,28 @@ fn is_right_format(text: &[u8], format: Text) -> bool
     }
 }
 
+// The date of an answer, absent where it has none.
+fn value_of(answer: ParsedDate) -> Day
+    ensures { λ r. ⌜ dayOf r ≡ dateAnswer answer .value ⌝ }
+{
+    match answer {
+        ParsedDate::Date(n) => Day::On(n),
+        ParsedDate::Malformed => Day::Absent,
+        ParsedDate::NotACalendarDay => Day::Absent,
+    }
+}
+
+// The message of an answer.
+fn message_of(answer: ParsedDate) -> Message
+    ensures { λ r. ⌜ r ≡ reading.dateMessage (dateAnswer answer .message) ⌝ }
+{
+    match answer {
+        ParsedDate::Date(_) => Message::NotCcyymmdd,
+        ParsedDate::Malformed => Message::NotCcyymmdd,
+        ParsedDate::NotACalendarDay => Message::NoSuchDay,
+    }
+}
+
 // The date that the text of element e spells.
 fn parsed(
     table: &[u32],
@@ -49,39 +72,16 @@ fn parsed(
     ensures { λ r. ⌜ Told (parsedDay mode (linkDoc (now (table .entry)) (now (text .entry)) (now (links .entry))) (siteOf site) e) (now (entries .entry)) at (dayOf (r .day)) (now (entries .exit)) (r .at) ⌝ }
 {
     let answer = date::parse(element::text_bytes(table, text, links, e), mode);
-    match answer {
-        ParsedDate::Date(n) => DateSaid {
-            day: Day::On(n),
-            at,
-        },
-        ParsedDate::Malformed => DateSaid {
-            day: Day::Absent,
-            at: say_of(
-                table,
-                text,
-                links,
-                mode,
-                entries,
-                at,
-                Message::NotCcyymmdd,
-                site,
-                e,
-            ),
-        },
-        ParsedDate::NotACalendarDay => DateSaid {
-            day: Day::Absent,
-            at: say_of(
-                table,
-                text,
-                links,
-                mode,
-                entries,
-                at,
-                Message::NoSuchDay,
-                site,
-                e,
-            ),
-        },
+    let day = value_of(answer);
+    match day {
+        Day::Absent => {
+            let message = message_of(answer);
+            DateSaid {
+                day,
+                at: say_of(table, text, links, mode, entries, at, message, site, e),
+            }
+        }
+        Day::On(_) => DateSaid { day, at },
     }
 }
 
@@ -107,19 +107,10 @@ fn date_from(
     if is_right_format(text, format) {
         return parsed(table, text, links, mode, entries, at, site, e);
     }
+    let message = Message::DateFormat;
     DateSaid {
         day: Day::Absent,
-        at: say_of(
-            table,
-            text,
-            links,
-            mode,
-            entries,
-            at,
-            Message::DateFormat,
-            site,
-            e,
-        ),
+        at: say_of(table, text, links, mode, entries, at, message, site, e),
     }
 }
 
@@ -143,17 +134,8 @@ fn spelled(
             term: Term::None,
             index: Index::Absent,
         };
-        let next = say_of(
-            table,
-            text,
-            links,
-            mode,
-            entries,
-            at,
-            Message::OtherDateElement,
-            site,
-            e,
-        );
+        let message = Message::OtherDateElement;
+        let next = say_of(table, text, links, mode, entries, at, message, site, e);
         return date_from(table, text, links, mode, entries, next, path, e);
     }
     date_from(table, text, links, mode, entries, at, path, e)

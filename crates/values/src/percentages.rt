@@ -1,4 +1,6 @@
 // Percentages.
+ghost use mathlib.Core.Path.{_≡_};
+ghost use Rattle.amount.specs.Answers.{percentageAnswer};
 ghost use Rattle.report.specs.Values.{percentOf};
 ghost use Rattle.settlement.specs.Values as reading;
 ghost use Rattle.element.specs.LinkDoc.{linkDoc};
@@ -18,6 +20,28 @@ pub struct PercentSaid {
     pub at: usize,
 }
 
+// The percentage of an answer, absent where it has none.
+fn value_of(answer: ParsedPercentage) -> Percent
+    ensures { λ r. ⌜ percentOf r ≡ percentageAnswer answer .value ⌝ }
+{
+    match answer {
+        ParsedPercentage::Percentage(p) => Percent::Of(p),
+        ParsedPercentage::Malformed => Percent::Absent,
+        ParsedPercentage::TooPrecise => Percent::Absent,
+    }
+}
+
+// The message of an answer.
+fn message_of(answer: ParsedPercentage) -> Message
+    ensures { λ r. ⌜ r ≡ reading.percentMessage (percentageAnswer answer .message) ⌝ }
+{
+    match answer {
+        ParsedPercentage::Percentage(_) => Message::NotADecimal,
+        ParsedPercentage::Malformed => Message::NotADecimal,
+        ParsedPercentage::TooPrecise => Message::TooManyDigits,
+    }
+}
+
 // The percentage that the text of element e spells.
 fn parsed(
     table: &[u32],
@@ -32,39 +56,16 @@ fn parsed(
     ensures { λ r. ⌜ Told (parsedPercent mode (linkDoc (now (table .entry)) (now (text .entry)) (now (links .entry))) (siteOf site) e) (now (entries .entry)) at (percentOf (r .percent)) (now (entries .exit)) (r .at) ⌝ }
 {
     let answer = Percentage::parse(element::text_bytes(table, text, links, e), mode);
-    match answer {
-        ParsedPercentage::Percentage(p) => PercentSaid {
-            percent: Percent::Of(p),
-            at,
-        },
-        ParsedPercentage::Malformed => PercentSaid {
-            percent: Percent::Absent,
-            at: say_of(
-                table,
-                text,
-                links,
-                mode,
-                entries,
-                at,
-                Message::NotADecimal,
-                site,
-                e,
-            ),
-        },
-        ParsedPercentage::TooPrecise => PercentSaid {
-            percent: Percent::Absent,
-            at: say_of(
-                table,
-                text,
-                links,
-                mode,
-                entries,
-                at,
-                Message::TooManyDigits,
-                site,
-                e,
-            ),
-        },
+    let percent = value_of(answer);
+    match percent {
+        Percent::Absent => {
+            let message = message_of(answer);
+            PercentSaid {
+                percent,
+                at: say_of(table, text, links, mode, entries, at, message, site, e),
+            }
+        }
+        Percent::Of(_) => PercentSaid { percent, at },
     }
 }
 

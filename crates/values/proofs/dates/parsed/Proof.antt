@@ -1,22 +1,18 @@
 use borrow.Author.Needs.{needs}
-use Rattle.settlement.specs.Values.{answered, dateMessage}
-use Rattle.values.proofs.Telling.{told-silent, told-said}
+use Rattle.settlement.specs.Values.{answered}
 use Rattle.values.specs.Sites.{parsedDay}
+use Rattle.values.proofs.Telling.{told-silent, told-said}
 use Rattle.values.proofs.dates.parsed.Statement.{statement}
 use Rattle.values.proofs.dates.parsed.Tie as tie
 
 returns : tie.Need-returns
 unfolding parsedDay answered
-returns c = rw (← c .before .before .before .before .text-bytes .ensures, ← c .before .before .before .parse .ensures, c .before .answer .given .1) (told-silent _ _)
+returns c = rw (← c .before .before .before .before .before .before .before .before .text-bytes .ensures, ← c .before .before .before .before .before .before .before .parse .ensures, ← c .before .before .before .before .before .before .value-of .ensures, c .before .before .before .before .enum-told .given .1, ← c .before .before .before .message-of .ensures) (told-said (c .before .say-of .ensures))
 
 returns-2 : tie.Need-returns-2
-unfolding parsedDay answered dateMessage
-returns-2 c = rw (← c .before .before .before .before .before .before .text-bytes .ensures, ← c .before .before .before .before .before .parse .ensures, c .before .before .before .enum-told .given .1) (told-said (c .before .say-of .ensures))
-
-returns-3 : tie.Need-returns-3
-unfolding parsedDay answered dateMessage
-returns-3 c = rw (← c .before .before .before .before .before .before .text-bytes .ensures, ← c .before .before .before .before .before .parse .ensures, c .before .before .before .enum-told2 .given .1) (told-said (c .before .say-of2 .ensures))
+unfolding parsedDay answered
+returns-2 c = rw (← c .before .before .before .before .text-bytes .ensures, ← c .before .before .before .parse .ensures, ← c .before .before .value-of .ensures, c .enum-told2 .given .1) (told-silent _ _)
 
 pub parsed-spec : {M : Type 1} → statement M
 parsed-spec =
-    tie.close (tie.spec (λ c κs. search needs) (λ c κs. search needs) (λ c. search needs) (λ c. search needs) (λ c κs. search needs) (λ c. search needs) (λ c κs. search needs) returns (λ c. search needs) returns-2 (λ c. search needs) returns-3)
+    tie.close (tie.spec (λ c κs. search needs) (λ c κs. search needs) (λ c κs. search needs) (λ c. search needs) (λ c κs. search needs) (λ c κs. search needs) (λ c. search needs) (λ c. search needs) returns returns-2)

@@ -1,23 +1,18 @@
 -- What a function of the reader did to the lent lists, against what is defined to be made.
 use mathlib.Core.Path.{_≡_}
-use mathlib.Core.List.{List, [], _∷_, _++_}
+use mathlib.Core.List.{List}
 use Prim.Native.Nat.{ℕ}
 use lib.IntN.{ℤ}
-use Rattle.report.specs.Rows.{Place, Held}
-use Rattle.report.specs.Encoding.{heldRow}
+use Rattle.report.specs.Rows.{Place}
+use Rattle.report.specs.Encoding.{heldRow, rowsOf}
 use Rattle.report.specs.Placed.{Placed}
 use Rattle.settlement.specs.Shapes.{Act}
 use Rattle.values.specs.Told.{Said}
 use Rattle.unmapped.specs.Noting.{notings, Noted}
-
--- the numbers of what is held, one row after the other
-unfoldable pub heldRows : List (Held Place) → List ℤ
-heldRows [] = []
-heldRows (h ∷ hs) = heldRow h ++ heldRows hs
 
 -- the state is the next one, and what is held, said and not mapped was put into the three lists, each behind what it had
 pub record Acted {S : Type 0} (a : Act Place S) (x : List ℕ) (next : S) (h : List ℤ) (heldAt : ℕ) (h′ : List ℤ) (heldNext : ℕ) (e : List ℤ) (at : ℕ) (e′ : List ℤ) (atNext : ℕ) (u : List ℤ) (count : ℕ) (u′ : List ℤ) (countNext : ℕ) : Type 0 where
   pub same : next ≡ a .next
-  pub held : Placed h heldAt (heldRows (a .holds)) h′ heldNext
+  pub held : Placed h heldAt (rowsOf heldRow (a .holds)) h′ heldNext
   pub said : Said (a .says) e at e′ atNext
   pub noted : Noted (notings x u count (a .strays)) u′ countNext
