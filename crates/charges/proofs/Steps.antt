@@ -10,7 +10,7 @@ use Rattle.report.specs.Rows.{Place, AllowanceCharge}
 use Rattle.settlement.specs.Document.{Doc}
 use Rattle.settlement.specs.Shapes.{Counts}
 use Rattle.settlement.specs.Tax.{GroupTerms, groupTerms, isCharge, categoryOf, categoryIn}
-use Rattle.settlement.specs.Values.{Lent, Says, kidText}
+use Rattle.settlement.specs.Values.{Lent, kidText, requiredAmount}
 use Rattle.values.specs.Sites.{lentOf}
 use Rattle.values.specs.Told.{Told}
 use Rattle.values.proofs.Telling.{said-then}
@@ -63,5 +63,8 @@ allowance-charge-told L D s n {l} {l₁} {l₂} {at} {a} {r} {b} {t} {g} {v} i o
     go q = record { same = pair-made (i .same) (q .same); said = said-then (i .said) (q .said) }
 
 -- a logistics charge that is a charge
-pub charge-told : {A : Type 0} {s : Says Place A} {v : A} {l l₁ : List ℤ} {at r : ℕ} → Told s l at v l₁ r → Told (some (s .0), s .1) l at (some v) l₁ r
-charge-told p = record { same = ap some (p .same); said = p .said }
+pub charge-told :
+    (L : Lent) (D : Doc ℕ Place) (g n : ℕ) {l l₁ : List ℤ} {at r : ℕ} {v : AllowanceCharge Place} → Told (logisticsRow (lentOf (L .mode) (L .rules) (L .currency)) D g n) l at v l₁ r →
+    Told (some (logisticsRow L D g n .0), logisticsRow L D g n .1) l at (some v) l₁ r
+unfolding logisticsRow categoryOf categoryIn requiredAmount
+charge-told L D g n p = record { same = ap some (p .same); said = p .said }

@@ -47,7 +47,17 @@ fn category_trade_tax(
     };
     let want = b"CategoryTradeTax";
     category_of(
-        table, text, links, mode, rules, entries, at, paths, g, n, want,
+        table,
+        text,
+        links,
+        mode,
+        rules,
+        entries,
+        at,
+        paths,
+        g,
+        n,
+        want,
     )
 }
 
@@ -103,7 +113,18 @@ fn basis_amount(
     let term = g.base;
     let site = values::grouped(Path::AllowanceChargeBasisAmount, term, g.index);
     let want = b"BasisAmount";
-    values::amount(table, text, links, mode, currency, entries, at, site, n, want)
+    values::amount(
+        table,
+        text,
+        links,
+        mode,
+        currency,
+        entries,
+        at,
+        site,
+        n,
+        want,
+    )
 }
 
 // BT-94 or BT-101 of element n.

@@ -14,7 +14,7 @@ use names::Term;
 use report::Text;
 
 // Whether it is a charge, and where the next entry goes.
-pub struct IndicatorSaid {
+pub(crate) struct IndicatorSaid {
     pub charge: bool,
     pub at: usize,
 }
@@ -57,7 +57,7 @@ fn indicated(
 }
 
 // Whether element n is a charge; an absent indicator is said and means an allowance.
-pub fn is_charge(
+pub(crate) fn is_charge(
     table: &[u32],
     text: &[u8],
     links: &[u16],

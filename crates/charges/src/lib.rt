@@ -15,8 +15,6 @@ mod shapes;
 pub use allowances::AllowanceChargeSaid;
 pub use allowances::allowance_charge;
 pub use holding::put_allowance_or_charge;
-pub use indicators::IndicatorSaid;
-pub use indicators::is_charge;
 pub use logistics::LogisticsSaid;
 pub use logistics::logistics_charge;
 pub use shapes::MaybeCharge;

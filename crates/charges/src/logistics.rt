@@ -49,7 +49,17 @@ fn applied_trade_tax(
     };
     let want = b"AppliedTradeTax";
     category_of(
-        table, text, links, mode, rules, entries, at, paths, g, n, want,
+        table,
+        text,
+        links,
+        mode,
+        rules,
+        entries,
+        at,
+        paths,
+        g,
+        n,
+        want,
     )
 }
 

@@ -1,15 +1,13 @@
 use borrow.Author.Needs.{needs}
 use Rattle.charges.proofs.Steps.{charge-told}
-use Rattle.charges.specs.Charges.{logisticsRow, logisticsSays}
-use Rattle.settlement.specs.Tax.{categoryOf, categoryIn}
-use Rattle.settlement.specs.Values.{requiredAmount}
+use Rattle.charges.specs.Charges.{logisticsSays}
 use Rattle.values.proofs.Telling.{told-said}
 use Rattle.charges.proofs.logistics.logistics_charge.Statement.{statement}
 use Rattle.charges.proofs.logistics.logistics_charge.Tie as tie
 
 returns : tie.Need-returns
-unfolding logisticsSays logisticsRow categoryOf categoryIn requiredAmount
-returns c = rw (← c .before .before .before .before .before .is-conformant .ensures, c .before .before .before .before .if1 .taken) (charge-told (c .before .before .logistics-row .ensures))
+unfolding logisticsSays
+returns c = rw (← c .before .before .before .before .before .is-conformant .ensures, c .before .before .before .before .if1 .taken) (charge-told _ _ _ _ (c .before .before .logistics-row .ensures))
 
 returns-2 : tie.Need-returns-2
 unfolding logisticsSays
