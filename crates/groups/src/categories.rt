@@ -10,14 +10,14 @@ use report::Place;
 use values::Site;
 
 // A category and its rate, and where the next entry goes.
-pub(crate) struct CategorySaid {
+pub struct CategorySaid {
     pub category: Place,
     pub rate: Percent,
     pub at: usize,
 }
 
 // The category in element n: its type code must be VAT, the code is required, the rate is not.
-pub(crate) fn category_in(
+pub fn category_in(
     table: &[u32],
     text: &[u8],
     links: &[u16],

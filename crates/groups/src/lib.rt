@@ -11,6 +11,8 @@ mod references;
 mod shapes;
 mod taxes;
 
+pub use categories::CategorySaid;
+pub use categories::category_in;
 pub use parties::payee;
 pub use periods::PaymentTermsSaid;
 pub use periods::PeriodSaid;
@@ -18,6 +20,7 @@ pub use periods::payment_terms;
 pub use periods::period;
 pub use references::PrecedingSaid;
 pub use references::preceding;
+pub use shapes::Category;
 pub use shapes::Identifier;
 pub use shapes::MaybeIdentifier;
 pub use shapes::Payee;

@@ -26,9 +26,13 @@ abbrev pub faultOf : Fault → Option Message
 faultOf Right = none
 faultOf (Wrong m) = some m
 
--- what is lent beside the table and the identifier
+-- what is lent beside the table
+abbrev pub lentWith : ℕ → ℕ → List ℕ → List ℕ → Lent
+lentWith mode rules currency identifier = record { mode = mode; rules = rules; currency = currency; identifier = identifier }
+
+-- the same where nothing looks at the identifier
 abbrev pub lentOf : ℕ → ℕ → List ℕ → Lent
-lentOf mode rules currency = record { mode = mode; rules = rules; currency = currency; identifier = [] }
+lentOf mode rules currency = lentWith mode rules currency []
 
 -- a required amount that is missing: 0, and message 9 with the path of its group
 unfoldable pub missingAmount : ℕ → Rule → Path → Site → Says Place ℤ

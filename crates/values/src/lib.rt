@@ -7,6 +7,7 @@
 mod amounts;
 mod currencies;
 mod dates;
+mod locating;
 mod percentages;
 mod required_codes;
 mod saying;
@@ -18,6 +19,8 @@ pub use amounts::required_amount;
 pub use amounts::tax_amount;
 pub use dates::DateSaid;
 pub use dates::date;
+pub use locating::grouped;
+pub use locating::site;
 pub use percentages::PercentSaid;
 pub use percentages::percent;
 pub use required_codes::RequiredCode;

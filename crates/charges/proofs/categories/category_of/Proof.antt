@@ -1,0 +1,19 @@
+use borrow.Author.Needs.{needs}
+use Rattle.charges.specs.Charges.{noCategory}
+use Rattle.element.proofs.Documents.{found-is}
+use Rattle.groups.specs.Categories.{categorySays}
+use Rattle.settlement.specs.Tax as reading
+use Rattle.charges.proofs.categories.category_of.Statement.{statement}
+use Rattle.charges.proofs.categories.category_of.Tie as tie
+
+returns : tie.Need-returns
+unfolding reading.categoryOf noCategory
+returns c = rw (← c .before .before .before .before .kid .ensures, c .before .before .before .if1 .taken) (c .before .absent .ensures)
+
+returns-2 : tie.Need-returns-2
+unfolding reading.categoryOf reading.categoryIn categorySays
+returns-2 c = rw (← c .before .before .before .before .kid .ensures, found-is (c .before .before .before .if1 .left)) (c .before .category-in .ensures)
+
+pub category-of-spec : {M : Type 1} → statement M
+category-of-spec =
+    tie.close (tie.spec (λ c κs. search needs) (λ c κs. search needs) (λ c. search needs) returns (λ c κs. search needs) (λ c. search needs) returns-2)

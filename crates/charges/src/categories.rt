@@ -1,0 +1,72 @@
+// The VAT category and rate of an allowance or a charge.
+ghost use mathlib.Core.List.{[]};
+ghost use Rattle.report.specs.Values.{placeOf, percentOf};
+ghost use Rattle.settlement.specs.Tax as reading;
+ghost use Rattle.element.specs.LinkDoc.{linkDoc};
+ghost use Rattle.values.specs.Sites.{lentOf};
+ghost use Rattle.values.specs.Told.{Told};
+ghost use Rattle.charges.specs.Charges.{groupTermsOf, taxPathsOf, noCategory};
+use crate::shapes::Group;
+use crate::shapes::TaxPaths;
+use groups::Category;
+use groups::CategorySaid;
+use names::Path;
+use report::Percent;
+use report::Place;
+
+// What is answered for a category whose element is missing, which is said with the path of its parent.
+fn absent(entries: &mut [i64], at: usize, rules: u32, parent: Path, g: Group) -> CategorySaid
+    ensures { λ r. ⌜ Told (noCategory rules parent (groupTermsOf g) (g .index)) (now (entries .entry)) at ((placeOf (r .category), percentOf (r .rate))) (now (entries .exit)) (r .at) ⌝ }
+{
+    let rule = g.category_rule;
+    let term = g.category;
+    let site = values::grouped(parent, term, g.index);
+    CategorySaid {
+        category: Place {
+            start: 0,
+            skip: 0,
+            len: 0,
+        },
+        rate: Percent::Absent,
+        at: values::missing(entries, at, rules, rule, site),
+    }
+}
+
+// The category in the first child of a name of element n.
+pub(crate) fn category_of(
+    table: &[u32],
+    text: &[u8],
+    links: &[u16],
+    mode: u32,
+    rules: u32,
+    entries: &mut [i64],
+    at: usize,
+    paths: TaxPaths,
+    g: Group,
+    n: usize,
+    want: &[u8],
+) -> CategorySaid
+    ensures { λ r. ⌜ Told (reading.categoryOf (lentOf mode rules []) (linkDoc (now (table .entry)) (now (text .entry)) (now (links .entry))) (taxPathsOf paths) (groupTermsOf g) (g .index) n (now (want .entry))) (now (entries .entry)) at ((placeOf (r .category), percentOf (r .rate))) (now (entries .exit)) (r .at) ⌝ }
+{
+    let parent = paths.parent;
+    let code = paths.type_code;
+    let whole = paths.whole;
+    let share = paths.rate;
+    let category = g.category;
+    let rate = g.rate;
+    let rule = g.category_rule;
+    let index = g.index;
+    let e = element::kid(table, text, links, n, want);
+    if e == 0 {
+        return absent(entries, at, rules, parent, g);
+    }
+    let of = Category {
+        code,
+        whole,
+        share,
+        category,
+        rate,
+        rule,
+    };
+    groups::category_in(table, text, links, mode, rules, entries, at, of, index, e)
+}
