@@ -1,3 +1,6 @@
-pub mod Acting
-pub mod Identifier
 pub mod Stepping
+pub mod Identifier
+pub mod Acting
+pub mod Counting
+pub mod Walking
+pub mod Reaching

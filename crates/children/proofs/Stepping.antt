@@ -10,7 +10,7 @@ use Rattle.values.specs.Told.{Said}
 use Rattle.values.proofs.Telling.{said-none}
 use Rattle.unmapped.specs.Noting.{notings, Noted}
 use Rattle.unmapped.proofs.Notings.{notings-none}
-use Rattle.payment.specs.Acted.{heldRows}
+use Rattle.report.specs.Encoding.{heldRow, rowsOf}
 use Rattle.settlement.specs.Kinds.{Kind, creditorReference, paymentReference, taxCurrency, invoiceCurrency, payee, paymentMeans, tradeTax, period, allowanceCharge, logisticsCharge, paymentTerms, summation, precedingInvoice, accounting, other, meant}
 use Rattle.settlement.specs.Shapes.{State}
 
@@ -53,8 +53,8 @@ lanes {X} {s} {t} a b c d e f g h i j k l m n o = fun-ext go
     go other = o
 
 -- no row was put
-pub none-held : {hs : List (Held Place)} {a b : ℕ} → hs ≡ [] → b ≡ a → (h : List ℤ) → Placed h a (heldRows hs) h b
-unfolding heldRows
+pub none-held : {hs : List (Held Place)} {a b : ℕ} → hs ≡ [] → b ≡ a → (h : List ℤ) → Placed h a (rowsOf heldRow hs) h b
+unfolding rowsOf
 none-held {hs} {a} {b} e f h = rw (e, f) (placed-none h a)
 
 -- nothing was said

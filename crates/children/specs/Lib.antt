@@ -1,4 +1,3 @@
-pub mod Calls
 pub mod Counts
 pub mod Kinds
 pub mod States

@@ -1,7 +1,7 @@
 -- What a child did to the reading so far and to the lent lists, by its kind.
 use mathlib.Core.Path.{_≡_}
 use mathlib.Core.Bool.{cond}
-use mathlib.Core.List.{List}
+use mathlib.Core.List.{List, foldl}
 use Prim.Native.Nat.{ℕ}
 use lib.IntN.{ℤ}
 use Rattle.report.specs.Rows.{Place}
@@ -9,11 +9,12 @@ use Rattle.report.specs.Placed.{Placed}
 use Rattle.settlement.specs.Document.{Doc}
 use Rattle.settlement.specs.Kinds.{Kind, logisticsCharge, sameKind, home}
 use Rattle.settlement.specs.Shapes.{Of, State, Act}
-use Rattle.settlement.specs.Settlement.{own, seen}
+use Rattle.settlement.specs.Settlement.{own, seen, step, saysOf, holdsOf, straysOf}
 use Rattle.settlement.specs.Values.{Lent}
+use Rattle.settlement.specs.Walk.{said as all}
 use Rattle.values.specs.Told.{Said}
 use Rattle.unmapped.specs.Noting.{notings, Noted}
-use Rattle.payment.specs.Acted.{heldRows}
+use Rattle.report.specs.Encoding.{heldRow, rowsOf}
 use Rattle.children.specs.States.{stateOf}
 use Rattle.children.specs.declared.state.State as Code
 
@@ -29,6 +30,13 @@ module _ (L : Lent) (D : Doc ℕ Place) where
 -- child c, of kind k, made r of s, and put what it holds, says and does not map into the three lists
 pub record Stepped (k : Kind) (L : Lent) (D : Doc ℕ Place) (x : List ℕ) (c : ℕ) (s r : Code.State) (h h′ e e′ u u′ : List ℤ) : Type 0 where
   pub state : stateOf r ≡ stepBy L D k (stateOf s) c
-  pub held : Placed h (s .«held_at») (heldRows (actBy L D k (home k) (stateOf s) c .holds)) h′ (r .«held_at»)
+  pub held : Placed h (s .«held_at») (rowsOf heldRow (actBy L D k (home k) (stateOf s) c .holds)) h′ (r .«held_at»)
   pub said : Said (actBy L D k (home k) (stateOf s) c .says) e (s .at) e′ (r .at)
   pub noted : Noted (notings x u (s .count) (actBy L D k (home k) (stateOf s) c .strays)) u′ (r .count)
+
+-- all children of a list made r of s, one after the other, and put what they hold, say and do not map into the three lists
+pub record Walked (L : Lent) (D : Doc ℕ Place) (x cs : List ℕ) (s r : Code.State) (h h′ e e′ u u′ : List ℤ) : Type 0 where
+  pub state : stateOf r ≡ foldl (step L D) (stateOf s) cs
+  pub held : Placed h (s .«held_at») (rowsOf heldRow (all (step L D) (holdsOf L D) (stateOf s) cs)) h′ (r .«held_at»)
+  pub said : Said (all (step L D) (saysOf L D) (stateOf s) cs) e (s .at) e′ (r .at)
+  pub noted : Noted (notings x u (s .count) (all (step L D) (straysOf L D) (stateOf s) cs)) u′ (r .count)

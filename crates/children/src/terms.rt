@@ -6,7 +6,7 @@ ghost use lib.IntN.{ℤ};
 ghost use Rattle.settlement.specs.Kinds.{period, paymentTerms, paymentMeans, summation};
 ghost use Rattle.settlement.specs.Values.{Lent};
 ghost use Rattle.element.specs.LinkDoc.{linkDoc};
-ghost use Rattle.children.specs.Calls.{callOf};
+ghost use Rattle.values.specs.Sites.{lentWith};
 ghost use Rattle.children.specs.Steps.{Stepped};
 use crate::state::MaybePeriod;
 use crate::state::MaybeTotals;
@@ -22,7 +22,7 @@ pub(crate) fn period(
     s: State,
     c: usize,
 ) -> State
-    ensures { λ r. ⌜ ((rules : ℕ) (currency identifier : List ℕ) (h u : List ℤ) → Stepped period (callOf mode rules currency identifier) (linkDoc (now (table .entry)) (now (text .entry)) (now (links .entry))) (now (text .entry)) c s r h h (now (entries .entry)) (now (entries .exit)) u u) ⌝ }
+    ensures { λ r. ⌜ ((rules : ℕ) (currency identifier : List ℕ) (h u : List ℤ) → Stepped period (lentWith mode rules currency identifier) (linkDoc (now (table .entry)) (now (text .entry)) (now (links .entry))) (now (text .entry)) c s r h h (now (entries .entry)) (now (entries .exit)) u u) ⌝ }
 {
     let said = groups::period(table, text, links, mode, entries, s.at, c);
     let found = said.period;
@@ -43,7 +43,7 @@ pub(crate) fn payment_terms(
     s: State,
     c: usize,
 ) -> State
-    ensures { λ r. ⌜ ((rules : ℕ) (currency identifier : List ℕ) (h u : List ℤ) → Stepped paymentTerms (callOf mode rules currency identifier) (linkDoc (now (table .entry)) (now (text .entry)) (now (links .entry))) (now (text .entry)) c s r h h (now (entries .entry)) (now (entries .exit)) u u) ⌝ }
+    ensures { λ r. ⌜ ((rules : ℕ) (currency identifier : List ℕ) (h u : List ℤ) → Stepped paymentTerms (lentWith mode rules currency identifier) (linkDoc (now (table .entry)) (now (text .entry)) (now (links .entry))) (now (text .entry)) c s r h h (now (entries .entry)) (now (entries .exit)) u u) ⌝ }
 {
     let said = groups::payment_terms(table, text, links, mode, entries, s.at, c);
     let found = said.terms;
@@ -104,7 +104,7 @@ pub(crate) fn summation(
     s: State,
     c: usize,
 ) -> State
-    ensures { λ r. ⌜ ((identifier : List ℕ) (h : List ℤ) → Stepped summation (callOf mode rules (now (currency .entry)) identifier) (linkDoc (now (table .entry)) (now (text .entry)) (now (links .entry))) (now (text .entry)) c s r h h (now (entries .entry)) (now (entries .exit)) (now (unmapped .entry)) (now (unmapped .exit))) ⌝ }
+    ensures { λ r. ⌜ ((identifier : List ℕ) (h : List ℤ) → Stepped summation (lentWith mode rules (now (currency .entry)) identifier) (linkDoc (now (table .entry)) (now (text .entry)) (now (links .entry))) (now (text .entry)) c s r h h (now (entries .entry)) (now (entries .exit)) (now (unmapped .entry)) (now (unmapped .exit))) ⌝ }
 {
     let bt5 = s.invoice_currency;
     let bt6 = s.tax_currency;

@@ -1,0 +1,25 @@
+use mathlib.Core.Path.{refl, _∙_}
+use borrow.Author.Needs.{needs}
+use Rattle.children.proofs.Acting.{logistics-held, logistics-left, charge-more}
+use Rattle.children.proofs.Stepping.{lanes}
+use Rattle.children.specs.Steps.{actBy, stepBy}
+use Rattle.settlement.specs.Kinds.{sameKind, home}
+use Rattle.settlement.specs.Settlement.{own}
+use Rattle.children.proofs.rows.logistics_charge.Statement.{statement}
+use Rattle.children.proofs.rows.logistics_charge.Tie as tie
+
+returns : tie.Need-returns
+unfolding stepBy actBy own home sameKind
+returns c u =
+    let acted = logistics-left _ _ _ _ (rw (c .before .before .before .enum-told .given .1) at (c .before .before .before .before .before .before .logistics-charge .ensures)) _ _ _ u _ in
+    record { state = lanes refl refl refl refl refl refl refl refl (acted .same) refl refl refl refl refl refl; held = acted .held; said = acted .said; noted = acted .noted }
+
+returns-2 : tie.Need-returns-2
+unfolding stepBy actBy own home sameKind
+returns-2 c u =
+    let acted = logistics-held _ _ _ _ (rw (c .before .before .before .before .before .before .before .charge .given .1) at (c .before .before .before .before .before .before .before .before .before .before .logistics-charge .ensures)) (c .before .before .before .before .put-charge .ensures) _ u _ in
+    record { state = lanes refl refl refl refl refl refl refl refl (charge-more refl _ ∙ acted .same) refl refl refl refl refl refl; held = acted .held; said = acted .said; noted = acted .noted }
+
+pub logistics-charge-spec : {M : Type 1} → statement M
+logistics-charge-spec =
+    tie.close (tie.spec (λ c κs. search needs) (λ c. search needs) (λ c. search needs) (λ c. search needs) (λ c κs. search needs) (λ c. search needs) returns (λ c. search needs) (λ c. search needs) returns-2)
