@@ -2,6 +2,7 @@
 use mathlib.Core.Path.{_≡_, refl, sym, ap, _∙_}
 use mathlib.Core.List.{List, [], _∷_, _++_, foldl, append-nil, foldl-append}
 use Prim.Native.Nat.{ℕ}
+use native.Mathlib.Omega.{arith}
 use lib.IntN.{ℤ}
 use Rattle.report.specs.Rows.{Place, Entry, Unmapped}
 use Rattle.report.specs.Encoding.{heldRow, rowsOf}
@@ -9,7 +10,7 @@ use Rattle.report.specs.Placed.{Placed}
 use Rattle.report.proofs.RowsOf.{rows-none, rows-then}
 use Rattle.settlement.specs.Document.{Doc}
 use Rattle.settlement.specs.Shapes.{State}
-use Rattle.settlement.specs.Settlement.{kindOf, act, step, saysOf, holdsOf, straysOf}
+use Rattle.settlement.specs.Settlement.{kindOf, act, step, saysOf, holdsOf, straysOf, after}
 use Rattle.settlement.specs.Values.{Lent}
 use Rattle.settlement.specs.Walk.{said as all}
 use Rattle.settlement.proofs.Walks.{said-append}
@@ -17,8 +18,9 @@ use Rattle.values.specs.Told.{Said}
 use Rattle.values.proofs.Telling.{said-none, said-then}
 use Rattle.unmapped.specs.Noting.{notings, Noted}
 use Rattle.unmapped.proofs.Notings.{notings-none, notings-then}
-use Rattle.children.specs.States.{stateOf}
-use Rattle.children.specs.Steps.{actBy, stepBy, Stepped, Walked}
+use Rattle.children.specs.Counts.{Counted}
+use Rattle.children.specs.States.{stateOf, Fresh}
+use Rattle.children.specs.Steps.{actBy, stepBy, Stepped, Walked, Read}
 use Rattle.children.specs.declared.state.State as Code
 
 -- what is said on the way, with one more
@@ -65,3 +67,18 @@ module _ (L : Lent) (D : Doc ℕ Place) (x : List ℕ) where
   -- the children are those of another list that is the same
   pub walked-as : {cs cs′ : List ℕ} {s r : Code.State} {h h′ e e′ u u′ : List ℤ} → Walked L D x cs s r h h′ e e′ u u′ → cs ≡ cs′ → Walked L D x cs′ s r h h′ e e′ u u′
   walked-as p q = rw q at p
+
+  -- from nothing on
+  pub walked-fresh : {cs : List ℕ} {s r : Code.State} {h h′ e e′ u u′ : List ℤ} → Fresh s → Walked L D x cs s r h h′ e e′ u u′ → Read L D x cs r h h′ e e′ u u′
+  unfolding after
+  walked-fresh f p =
+      record {
+        state = rw (f .lanes) at (p .state);
+        held = rw (f .lanes, f .held) at (p .held);
+        said = rw (f .lanes, f .entries) at (p .said);
+        noted = rw (f .lanes, f .unmapped) at (p .noted);
+      }
+
+-- and nothing is counted yet
+pub fresh-counted : {s : Code.State} → Fresh s → Counted (stateOf s) 0
+fresh-counted f = rw (f .lanes) (record { breakdowns = omega arith; allowances = omega arith; charges = omega arith; invoices = omega arith })

@@ -1,4 +1,10 @@
-// The children of a settlement, each read on the lane of its kind.
+// The children of a settlement (record 0), read one after the other, each by its kind: a name is
+// looked up once, and a `match` leads to the function of its kind.
+//
+// The state of a reading goes by value; rows, entries and unmapped names go to the lent lists, each
+// behind what it had. A document is lent as a table, its text and its links (crate `element`). No
+// public function has a `requires` (those that count rows have one, and are private), and the crate
+// assumes nothing of its own.
 mod kinds;
 mod plain;
 mod rows;
@@ -11,4 +17,4 @@ pub use state::MaybePeriod;
 pub use state::MaybeTotals;
 pub use state::Reference;
 pub use state::State;
-pub use walk::read_children;
+pub use walk::read_settlement;

@@ -1,8 +1,5 @@
 // The reading so far: what each kind of child of a settlement has made, and where the next rows go.
-ghost use mathlib.Core.Path.{_≡_};
-ghost use Rattle.report.specs.Rows.{Place};
-ghost use Rattle.settlement.specs.Shapes.{blank};
-ghost use Rattle.children.specs.States.{stateOf, Fresh};
+ghost use Rattle.children.specs.States.{Fresh};
 use groups::Payee;
 use groups::PaymentTerms;
 use groups::Period;
@@ -63,7 +60,7 @@ pub struct State {
 }
 
 // Before the first child.
-pub fn blank() -> State
+pub(crate) fn blank() -> State
     ensures { λ r. ⌜ Fresh r ⌝ }
 {
     State {

@@ -10,7 +10,7 @@ ghost use Rattle.element.specs.LinkDoc.{linkDoc};
 ghost use Rattle.values.specs.Sites.{lentWith};
 ghost use Rattle.children.specs.Counts.{Counted};
 ghost use Rattle.children.specs.States.{stateOf};
-ghost use Rattle.children.specs.Steps.{Stepped, Walked};
+ghost use Rattle.children.specs.Steps.{Stepped, Walked, Read, countable};
 use crate::kinds::Kind;
 use crate::kinds::kind_of;
 use crate::plain::accounting;
@@ -24,6 +24,7 @@ use crate::rows::logistics_charge;
 use crate::rows::preceding_invoice;
 use crate::rows::trade_tax;
 use crate::state::State;
+use crate::state::blank;
 use crate::terms::payment_means;
 use crate::terms::payment_terms;
 use crate::terms::period;
@@ -146,7 +147,7 @@ fn read_child(
 }
 
 // All children of element n, from a state on.
-pub fn read_children(
+fn read_children(
     table: &[u32],
     text: &[u8],
     links: &[u16],
@@ -188,4 +189,40 @@ pub fn read_children(
         left -= 1;
     }
     s
+}
+
+// All children of record 0, from nothing on. No child is read where there are more links than a table
+// of 4,096 records has, for then there might be more rows than can be counted.
+pub fn read_settlement(
+    table: &[u32],
+    text: &[u8],
+    links: &[u16],
+    mode: u32,
+    rules: u32,
+    currency: &[u8],
+    identifier: &[u8],
+    held: &mut [i64],
+    entries: &mut [i64],
+    unmapped: &mut [i64],
+) -> State
+    ensures { λ r. ⌜ Read (lentWith mode rules (now (currency .entry)) (now (identifier .entry))) (linkDoc (now (table .entry)) (now (text .entry)) (now (links .entry))) (now (text .entry)) (countable (now (links .entry)) (linkDoc (now (table .entry)) (now (text .entry)) (now (links .entry)) .kids 0)) r (now (held .entry)) (now (held .exit)) (now (entries .entry)) (now (entries .exit)) (now (unmapped .entry)) (now (unmapped .exit)) ⌝ }
+{
+    let start = blank();
+    if links.len() <= 12288 {
+        return read_children(
+            table,
+            text,
+            links,
+            mode,
+            rules,
+            currency,
+            identifier,
+            held,
+            entries,
+            unmapped,
+            start,
+            0,
+        );
+    }
+    start
 }
