@@ -1,0 +1,238 @@
+// The end of a reading: what is missing, what becomes of mandate and creditor identifier, the terms.
+ghost use mathlib.Core.Path.{_≡_};
+ghost use mathlib.Core.List.{[], _∷_};
+ghost use mathlib.Core.Option.{none};
+ghost use Rattle.names.specs.declared.term.Term.the-variants as Term;
+ghost use Rattle.report.specs.Values.{textOf};
+ghost use Rattle.settlement.specs.Document.{maybe, or};
+ghost use Rattle.settlement.specs.Settlement as reading;
+ghost use Rattle.settlement.specs.Shapes.{noTotals};
+ghost use Rattle.settlement.specs.Summation.{isNone};
+ghost use Rattle.settlement.specs.Values.{site, entry};
+ghost use Rattle.values.specs.Told.{Said};
+ghost use Rattle.payment.specs.Walks.{meansOf};
+ghost use Rattle.totals.specs.Reading.{totalsOf};
+ghost use Rattle.children.specs.States.{referenceOf, maybeTotalsOf, stateOf};
+ghost use Rattle.reader.specs.Endings.{missingTotals, freshMeans, isPaid, Debited, Ended};
+use crate::answer::Terms;
+use crate::answer::no_totals;
+use children::MaybeTotals;
+use children::Reference;
+use children::State;
+use codes::Rule;
+use names::Message;
+use names::Path;
+use names::Term;
+use payment::Means;
+use report::Text;
+use totals::Totals;
+
+// The means with mandate and creditor identifier, and where the next entry goes.
+pub(crate) struct Debit {
+    pub means: Means,
+    pub mandate: Text,
+    pub creditor: Text,
+    pub at: usize,
+}
+
+// The terms, and where the next entry would go.
+pub(crate) struct Finished {
+    pub terms: Terms,
+    pub at: usize,
+}
+
+// Whether a text is absent.
+fn is_absent(t: Text) -> bool
+    ensures { λ r. ⌜ r ≡ isNone (textOf t) ⌝ }
+{
+    match t {
+        Text::Absent => true,
+        Text::At(_) => false,
+    }
+}
+
+// Says that a text is lost, if it is there.
+fn say_lost(entries: &mut [i64], at: usize, message: Message, path: Path, lost: Text) -> usize
+    ensures { λ r. ⌜ Said (maybe [] (λ p. entry message (site path Term.None) none ∷ []) (textOf lost)) (now (entries .entry)) at (now (entries .exit)) r ⌝ }
+{
+    match lost {
+        Text::Absent => at,
+        Text::At(_) => values::say(
+            entries,
+            at,
+            message,
+            values::site(path, Term::None),
+            Text::Absent,
+        ),
+    }
+}
+
+// Mandate and creditor identifier beside a card or transfers: both are lost, and said.
+fn besides(entries: &mut [i64], at: usize, means: Means, mandate: Text, creditor: Text) -> Debit
+    ensures { λ r. ⌜ Debited (reading.besides (meansOf means) (textOf mandate) (textOf creditor)) (now (entries .entry)) at r (now (entries .exit)) ⌝ }
+{
+    let path = Path::PaymentTermsDirectDebitMandate;
+    let first = say_lost(entries, at, Message::MandateBesideOther, path, mandate);
+    let other = Path::SettlementCreditorReference;
+    Debit {
+        means,
+        mandate: Text::Absent,
+        creditor: Text::Absent,
+        at: say_lost(
+            entries,
+            first,
+            Message::CreditorBesideOther,
+            other,
+            creditor,
+        ),
+    }
+}
+
+// Where no means are held, a mandate or a creditor identifier makes a direct debit.
+fn debit_of(mandate: Text, creditor: Text) -> Means
+    ensures { λ r. ⌜ meansOf r ≡ freshMeans (textOf mandate) (textOf creditor) ⌝ }
+{
+    if is_absent(mandate) {
+        if is_absent(creditor) {
+            return Means::Unset;
+        }
+    }
+    Means::Debit(Text::Absent)
+}
+
+// What becomes of the means, the mandate and the creditor identifier.
+fn debited(entries: &mut [i64], at: usize, means: Means, mandate: Text, creditor: Text) -> Debit
+    ensures { λ r. ⌜ Debited (reading.debited (meansOf means) (textOf mandate) (textOf creditor)) (now (entries .entry)) at r (now (entries .exit)) ⌝ }
+{
+    match means {
+        Means::Unset => Debit {
+            means: debit_of(mandate, creditor),
+            mandate,
+            creditor,
+            at,
+        },
+        Means::Debit(account) => Debit {
+            means: Means::Debit(account),
+            mandate,
+            creditor,
+            at,
+        },
+        Means::Card(card) => besides(entries, at, Means::Card(card), mandate, creditor),
+        Means::Transfers => besides(entries, at, Means::Transfers, mandate, creditor),
+    }
+}
+
+// The four required amounts of a summation that is not there.
+fn missing_totals(entries: &mut [i64], at: usize, rules: u32) -> usize
+    ensures { λ r. ⌜ Said (missingTotals rules) (now (entries .entry)) at (now (entries .exit)) r ⌝ }
+{
+    let path = Path::SettlementSummation;
+    let line = values::site(path, Term::Bt106);
+    let taxable = values::site(path, Term::Bt109);
+    let gross = values::site(path, Term::Bt112);
+    let due = values::site(path, Term::Bt115);
+    let at = values::missing(entries, at, rules, Rule::Br12, line);
+    let at = values::missing(entries, at, rules, Rule::Br13, taxable);
+    let at = values::missing(entries, at, rules, Rule::Br14, gross);
+    values::missing(entries, at, rules, Rule::Br15, due)
+}
+
+// Says what is missing where there was no summation.
+fn say_totals(entries: &mut [i64], at: usize, rules: u32, totals: MaybeTotals) -> usize
+    ensures { λ r. ⌜ Said (maybe (missingTotals rules) (λ t. []) (maybeTotalsOf totals)) (now (entries .entry)) at (now (entries .exit)) r ⌝ }
+{
+    match totals {
+        MaybeTotals::Absent => missing_totals(entries, at, rules),
+        MaybeTotals::Of(_) => at,
+    }
+}
+
+// The totals, those of no summation where there was none.
+fn totals_or_none(totals: MaybeTotals) -> Totals
+    ensures { λ r. ⌜ totalsOf r ≡ or noTotals (maybeTotalsOf totals) ⌝ }
+{
+    match totals {
+        MaybeTotals::Absent => no_totals(),
+        MaybeTotals::Of(t) => t,
+    }
+}
+
+// BT-83.
+fn reference_text(reference: Reference) -> Text
+    ensures { λ r. ⌜ textOf r ≡ or none (referenceOf reference) ⌝ }
+{
+    match reference {
+        Reference::Absent => Text::Absent,
+        Reference::Met(t) => t,
+    }
+}
+
+// Whether there is BG-16: a payment means, a reference, a mandate or a creditor identifier.
+fn is_paid(met: bool, reference: Reference, mandate: Text, creditor: Text) -> bool
+    ensures { λ r. ⌜ r ≡ isPaid met (referenceOf reference) (textOf mandate) (textOf creditor) ⌝ }
+{
+    if met {
+        return true;
+    }
+    match reference {
+        Reference::Met(_) => true,
+        Reference::Absent => {
+            if is_absent(mandate) {
+                return !is_absent(creditor);
+            }
+            true
+        }
+    }
+}
+
+// The terms after all children, and what is said at the end.
+pub(crate) fn finish(entries: &mut [i64], rules: u32, s: State) -> Finished
+    ensures { λ r. ⌜ Ended (reading.termsOf (stateOf s)) (reading.lateOf rules (stateOf s)) (now (entries .entry)) (s .at) r (now (entries .exit)) ⌝ }
+{
+    let payment = s.payment;
+    let terms = s.terms;
+    let vat = s.vat;
+    let totals = s.totals;
+    let reference = s.reference;
+    let creditor = s.creditor;
+    let mandate = terms.mandate;
+    let at = say_totals(entries, s.at, rules, totals);
+    let held = payment.means;
+    let debit = debited(entries, at, held, mandate, creditor);
+    let means = debit.means;
+    let bt89 = debit.mandate;
+    let bt90 = debit.creditor;
+    let bt5 = s.invoice_currency;
+    let bt6 = s.tax_currency;
+    let bt7 = vat.point;
+    let bt8 = vat.code;
+    let bt9 = terms.due;
+    let bt19 = s.accounting;
+    let bt20 = terms.note;
+    let payee = s.payee;
+    let period = s.period;
+    let bt81 = payment.code;
+    let bt82 = payment.text;
+    Finished {
+        terms: Terms {
+            bt5,
+            bt6,
+            bt7,
+            bt8,
+            bt9,
+            bt19,
+            bt20,
+            payee,
+            period,
+            paid: is_paid(payment.met, reference, mandate, creditor),
+            bt81,
+            bt82,
+            bt83: reference_text(reference),
+            means,
+            bt89,
+            bt90,
+            totals: totals_or_none(totals),
+        },
+        at: debit.at,
+    }
+}

@@ -1,0 +1,6 @@
+// The reader of a settlement.
+mod answer;
+mod ending;
+
+pub use answer::Answer;
+pub use answer::Terms;
