@@ -9,10 +9,10 @@ use Rattle.groups.proofs.categories.category_in.Tie as tie
 returns : tie.Need-returns
 unfolding categorySays bytes encode
 returns c =
-    let rate = c .before .before .percent .ensures in
-    let code = c .before .before .before .before .before .before .required-code .ensures in
-    record { same = pair-made (code .same) (rate .same); said = said-then (c .before .before .before .before .before .before .before .before .before .before .say-non-vat .ensures) (said-then (code .said) (rate .said)) }
+    let kind = rw (c .before .before .before .before .before .before .before .before .before .before .before .before .grouped2 .ensures) at (c .before .before .before .before .before .before .before .before .required-code .ensures) in
+    let rate = rw (c .before .before .before .before .before .before .grouped3 .ensures) at (c .before .before .percent .ensures) in
+    record { same = pair-made (kind .same) (rate .same); said = said-then (rw (c .before .before .before .before .before .before .before .before .before .before .before .before .before .before .before .before .grouped .ensures) at (c .before .before .before .before .before .before .before .before .before .before .before .before .before .before .say-non-vat .ensures)) (said-then (kind .said) (rate .said)) }
 
 pub category-in-spec : {M : Type 1} → statement M
 category-in-spec =
-    tie.close (tie.spec (λ c κs. search needs) (λ c. search needs) (λ c κs. search needs) (λ c. search needs) (λ c κs. search needs) (λ c. search needs) returns)
+    tie.close (tie.spec (λ c κs. search needs) (λ c κs. search needs) (λ c κs. search needs) (λ c κs. search needs) (λ c κs. search needs) (λ c κs. search needs) (λ c. search needs) returns)

@@ -8,10 +8,10 @@ use Rattle.groups.proofs.periods.period.Tie as tie
 returns : tie.Need-returns
 unfolding reading.periodOf bytes encode
 returns c =
-    let a = c .before .before .before .before .before .date .ensures in
-    let b = c .before .date2 .ensures in
-    record { same = rw (a .same, b .same); said = said-then (a .said) (b .said) }
+    let start = c .before .before .before .before .before .before .date .ensures in
+    let end = c .before .date2 .ensures in
+    record { same = rw (start .same, end .same); said = said-then (start .said) (end .said) }
 
 pub period-spec : {M : Type 1} → statement M
 period-spec =
-    tie.close (tie.spec (λ c. search needs) (λ c κs. search needs) (λ c. search needs) (λ c κs. search needs) (λ c. search needs) returns)
+    tie.close (tie.spec (λ c κs. search needs) (λ c κs. search needs) (λ c. search needs) returns)

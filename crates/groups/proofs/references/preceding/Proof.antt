@@ -8,10 +8,10 @@ use Rattle.groups.proofs.references.preceding.Tie as tie
 returns : tie.Need-returns
 unfolding precedingSays bytes encode
 returns c =
-    let r = c .before .before .before .before .before .before .required-code .ensures in
+    let r = rw (c .before .before .before .before .before .before .before .before .before .before .before .grouped .ensures) at (c .before .before .before .before .before .before .before .required-code .ensures) in
     let d = c .before .before .date .ensures in
     record { same = rw (r .same, d .same); said = said-then (r .said) (d .said) }
 
 pub preceding-spec : {M : Type 1} → statement M
 preceding-spec =
-    tie.close (tie.spec (λ c. search needs) (λ c κs. search needs) (λ c. search needs) (λ c κs. search needs) (λ c. search needs) returns)
+    tie.close (tie.spec (λ c κs. search needs) (λ c κs. search needs) (λ c κs. search needs) (λ c. search needs) returns)
