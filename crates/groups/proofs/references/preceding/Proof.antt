@@ -1,16 +1,12 @@
 use borrow.Author.Needs.{needs}
-use Rattle.groups.specs.Groups.{precedingSays}
+use Rattle.groups.proofs.Steps.{preceding-told}
 use Rattle.text.specs.Utf8.{bytes, encode}
-use Rattle.values.proofs.Telling.{said-then}
 use Rattle.groups.proofs.references.preceding.Statement.{statement}
 use Rattle.groups.proofs.references.preceding.Tie as tie
 
 returns : tie.Need-returns
-unfolding precedingSays bytes encode
-returns c =
-    let r = rw (c .before .before .before .before .before .before .before .before .before .before .before .grouped .ensures) at (c .before .before .before .before .before .before .before .required-code .ensures) in
-    let d = c .before .before .date .ensures in
-    record { same = rw (r .same, d .same); said = said-then (r .said) (d .said) }
+unfolding bytes encode
+returns c = preceding-told _ _ _ _ _ (c .before .before .before .before .before .before .before .before .before .before .before .grouped .ensures) (c .before .before .before .before .before .before .before .required-code .ensures) (c .before .before .date .ensures)
 
 pub preceding-spec : {M : Type 1} → statement M
 preceding-spec =
