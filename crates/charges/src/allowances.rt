@@ -39,26 +39,14 @@ fn category_trade_tax(
 ) -> CategorySaid
     ensures { λ r. ⌜ Told (categoryTradeTax (lentOf mode rules []) (linkDoc (now (table .entry)) (now (text .entry)) (now (links .entry))) (groupTermsOf g) (g .index) n) (now (entries .entry)) at ((placeOf (r .category), percentOf (r .rate))) (now (entries .exit)) (r .at) ⌝ }
 {
-    let paths = TaxPaths {
+    let p = TaxPaths {
         type_code: Path::CategoryTradeTaxTypeCode,
         whole: Path::SettlementAllowanceChargeCategoryTradeTax,
         rate: Path::CategoryTradeTaxRateApplicablePercent,
         parent: Path::SettlementAllowanceCharge,
     };
     let want = b"CategoryTradeTax";
-    category_of(
-        table,
-        text,
-        links,
-        mode,
-        rules,
-        entries,
-        at,
-        paths,
-        g,
-        n,
-        want,
-    )
+    category_of(table, text, links, mode, rules, entries, at, p, g, n, want)
 }
 
 // BT-92 or BT-99 of element n.

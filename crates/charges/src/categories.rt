@@ -41,17 +41,17 @@ pub(crate) fn category_of(
     rules: u32,
     entries: &mut [i64],
     at: usize,
-    paths: TaxPaths,
+    p: TaxPaths,
     g: Group,
     n: usize,
     want: &[u8],
 ) -> CategorySaid
-    ensures { λ r. ⌜ Told (reading.categoryOf (lentOf mode rules []) (linkDoc (now (table .entry)) (now (text .entry)) (now (links .entry))) (taxPathsOf paths) (groupTermsOf g) (g .index) n (now (want .entry))) (now (entries .entry)) at ((placeOf (r .category), percentOf (r .rate))) (now (entries .exit)) (r .at) ⌝ }
+    ensures { λ r. ⌜ Told (reading.categoryOf (lentOf mode rules []) (linkDoc (now (table .entry)) (now (text .entry)) (now (links .entry))) (taxPathsOf p) (groupTermsOf g) (g .index) n (now (want .entry))) (now (entries .entry)) at ((placeOf (r .category), percentOf (r .rate))) (now (entries .exit)) (r .at) ⌝ }
 {
-    let parent = paths.parent;
-    let code = paths.type_code;
-    let whole = paths.whole;
-    let share = paths.rate;
+    let parent = p.parent;
+    let code = p.type_code;
+    let whole = p.whole;
+    let share = p.rate;
     let category = g.category;
     let rate = g.rate;
     let rule = g.category_rule;

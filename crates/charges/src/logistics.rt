@@ -41,26 +41,14 @@ fn applied_trade_tax(
 ) -> CategorySaid
     ensures { λ r. ⌜ Told (appliedTradeTax (lentOf mode rules []) (linkDoc (now (table .entry)) (now (text .entry)) (now (links .entry))) (groupTermsOf g) (g .index) n) (now (entries .entry)) at ((placeOf (r .category), percentOf (r .rate))) (now (entries .exit)) (r .at) ⌝ }
 {
-    let paths = TaxPaths {
+    let p = TaxPaths {
         type_code: Path::AppliedTradeTaxTypeCode,
         whole: Path::SettlementLogisticsChargeAppliedTradeTax,
         rate: Path::AppliedTradeTaxRateApplicablePercent,
         parent: Path::SettlementLogisticsCharge,
     };
     let want = b"AppliedTradeTax";
-    category_of(
-        table,
-        text,
-        links,
-        mode,
-        rules,
-        entries,
-        at,
-        paths,
-        g,
-        n,
-        want,
-    )
+    category_of(table, text, links, mode, rules, entries, at, p, g, n, want)
 }
 
 // BT-99 of a logistics charge n.

@@ -2,6 +2,7 @@
 use mathlib.Core.List.{List, [], _∷_, _++_}
 use mathlib.Core.Option.{Option, none, some}
 use Prim.Native.Nat.{ℕ}
+use lib.IntN.{ℤ}
 use Rattle.text.specs.Utf8.{bytes}
 use Rattle.codes.specs.VatPoint.{vatPointDateCodeOf}
 use Rattle.codes.specs.declared.rules.Rule.the-variants as Rule
@@ -49,13 +50,22 @@ pointSays mode D s n =
 abbrev pub vatCategory : Category
 vatCategory = record { code = Path.TradeTaxTypeCode; whole = Path.SettlementTradeTax; share = Path.TradeTaxRateApplicablePercent; category = Term.Bt118; rate = Term.Bt119; rule = Rule.Br47 }
 
+module _ (L : Lent) (D : Doc ℕ Place) (g n : ℕ) where
+  -- the taxable amount of a breakdown
+  abbrev pub basisAmount : Says Place ℤ
+  basisAmount = requiredAmount L D Rule.Br45 Path.SettlementTradeTax (grouped Path.TradeTaxBasisAmount Term.Bt116 g) n (bytes "BasisAmount")
+
+  -- its tax amount
+  abbrev pub calculatedAmount : Says Place ℤ
+  calculatedAmount = requiredAmount L D Rule.Br46 Path.SettlementTradeTax (grouped Path.TradeTaxCalculatedAmount Term.Bt117 g) n (bytes "CalculatedAmount")
+
 -- point date and code after a breakdown, and the breakdown, with what it says
 unfoldable pub tradeTaxSays : Lent → Doc ℕ Place → VatState Place → ℕ → Says Place (VatState Place × Vat Place)
 tradeTaxSays L D s n =
     let g = s .count in
     let p = pointSays (L .mode) D s n in
-    let a = requiredAmount L D Rule.Br45 Path.SettlementTradeTax (grouped Path.TradeTaxBasisAmount Term.Bt116 g) n (bytes "BasisAmount") in
-    let b = requiredAmount L D Rule.Br46 Path.SettlementTradeTax (grouped Path.TradeTaxCalculatedAmount Term.Bt117 g) n (bytes "CalculatedAmount") in
+    let a = basisAmount L D g n in
+    let b = calculatedAmount L D g n in
     let k = categorySays (L .mode) (L .rules) D vatCategory g n in (
       (
         p .0,

@@ -4,10 +4,8 @@ ghost use Rattle.element.specs.LinkDoc.{linkDoc};
 ghost use Rattle.values.specs.Told.{Told};
 ghost use Rattle.groups.specs.Categories.{categorySays};
 use crate::shapes::Category;
-use report::Index;
 use report::Percent;
 use report::Place;
-use values::Site;
 
 // A category and its rate, and where the next entry goes.
 pub struct CategorySaid {
@@ -37,50 +35,15 @@ pub fn category_in(
     let category = of.category;
     let rate = of.rate;
     let rule = of.rule;
-    let typed = values::say_non_vat(
-        table,
-        text,
-        links,
-        entries,
-        at,
-        Site {
-            path: code,
-            term: category,
-            index: Index::At(index),
-        },
-        n,
-    );
-    let kind = values::required_code(
-        table,
-        text,
-        links,
-        rules,
-        entries,
-        typed,
-        rule,
-        Site {
-            path: whole,
-            term: category,
-            index: Index::At(index),
-        },
-        n,
-        b"CategoryCode",
-    );
-    let percent = values::percent(
-        table,
-        text,
-        links,
-        mode,
-        entries,
-        kind.at,
-        Site {
-            path: share,
-            term: rate,
-            index: Index::At(index),
-        },
-        n,
-        b"RateApplicablePercent",
-    );
+    let site = values::grouped(code, category, index);
+    let at = values::say_non_vat(table, text, links, entries, at, site, n);
+    let site = values::grouped(whole, category, index);
+    let want = b"CategoryCode";
+    let kind = values::required_code(table, text, links, rules, entries, at, rule, site, n, want);
+    let at = kind.at;
+    let site = values::grouped(share, rate, index);
+    let want = b"RateApplicablePercent";
+    let percent = values::percent(table, text, links, mode, entries, at, site, n, want);
     let found = kind.code;
     let read = percent.percent;
     CategorySaid {

@@ -35,32 +35,15 @@ pub fn period(
 ) -> PeriodSaid
     ensures { λ r. ⌜ Told (said (reading.periodOf mode (linkDoc (now (table .entry)) (now (text .entry)) (now (links .entry))) n)) (now (entries .entry)) at (some (periodOf (r .period))) (now (entries .exit)) (r .at) ⌝ }
 {
-    let start = values::date(
-        table,
-        text,
-        links,
-        mode,
-        entries,
-        at,
-        false,
-        Path::PeriodStartDateTimeString,
-        Path::PeriodStartDateString,
-        n,
-        b"StartDateTime",
-    );
-    let end = values::date(
-        table,
-        text,
-        links,
-        mode,
-        entries,
-        start.at,
-        false,
-        Path::PeriodEndDateTimeString,
-        Path::PeriodEndDateString,
-        n,
-        b"EndDateTime",
-    );
+    let p = Path::PeriodStartDateTimeString;
+    let q = Path::PeriodStartDateString;
+    let want = b"StartDateTime";
+    let start = values::date(table, text, links, mode, entries, at, false, p, q, n, want);
+    let at = start.at;
+    let p = Path::PeriodEndDateTimeString;
+    let q = Path::PeriodEndDateString;
+    let want = b"EndDateTime";
+    let end = values::date(table, text, links, mode, entries, at, false, p, q, n, want);
     let first = start.day;
     let last = end.day;
     PeriodSaid {
@@ -95,19 +78,10 @@ pub fn payment_terms(
 ) -> PaymentTermsSaid
     ensures { λ r. ⌜ Told (said (reading.paymentTermsOf mode (linkDoc (now (table .entry)) (now (text .entry)) (now (links .entry))) n)) (now (entries .entry)) at (paymentTermsOf (r .terms)) (now (entries .exit)) (r .at) ⌝ }
 {
-    let due = values::date(
-        table,
-        text,
-        links,
-        mode,
-        entries,
-        at,
-        false,
-        Path::PaymentTermsDueDateTimeString,
-        Path::PaymentTermsDueDateString,
-        n,
-        b"DueDateDateTime",
-    );
+    let p = Path::PaymentTermsDueDateTimeString;
+    let q = Path::PaymentTermsDueDateString;
+    let want = b"DueDateDateTime";
+    let due = values::date(table, text, links, mode, entries, at, false, p, q, n, want);
     let day = due.day;
     PaymentTermsSaid {
         terms: PaymentTerms {

@@ -6,9 +6,7 @@ ghost use Rattle.groups.specs.Groups.{precedingSays};
 use codes::Rule;
 use names::Path;
 use names::Term;
-use report::Index;
 use report::Preceding;
-use values::Site;
 
 // A preceding invoice, and where the next entry goes.
 pub struct PrecedingSaid {
@@ -30,36 +28,15 @@ pub fn preceding(
 ) -> PrecedingSaid
     ensures { λ r. ⌜ Told (precedingSays mode rules (linkDoc (now (table .entry)) (now (text .entry)) (now (links .entry))) index n) (now (entries .entry)) at (precedingOf (r .invoice)) (now (entries .exit)) (r .at) ⌝ }
 {
-    let site = Site {
-        path: Path::SettlementInvoiceReferencedDocument,
-        term: Term::Bt25,
-        index: Index::At(index),
-    };
-    let id = values::required_code(
-        table,
-        text,
-        links,
-        rules,
-        entries,
-        at,
-        Rule::Br55,
-        site,
-        n,
-        b"IssuerAssignedID",
-    );
-    let issued = values::date(
-        table,
-        text,
-        links,
-        mode,
-        entries,
-        id.at,
-        false,
-        Path::ReferencedDocumentIssueDateTimeString,
-        Path::ReferencedDocumentIssueDateString,
-        n,
-        b"FormattedIssueDateTime",
-    );
+    let site = values::grouped(Path::SettlementInvoiceReferencedDocument, Term::Bt25, index);
+    let rule = Rule::Br55;
+    let want = b"IssuerAssignedID";
+    let id = values::required_code(table, text, links, rules, entries, at, rule, site, n, want);
+    let at = id.at;
+    let p = Path::ReferencedDocumentIssueDateTimeString;
+    let q = Path::ReferencedDocumentIssueDateString;
+    let want = b"FormattedIssueDateTime";
+    let issued = values::date(table, text, links, mode, entries, at, false, p, q, n, want);
     let reference = id.code;
     let date = issued.day;
     PrecedingSaid {

@@ -1,10 +1,11 @@
 // BG-23 VAT breakdown, with the VAT point date and code of the invoice.
+ghost use mathlib.Core.Path.{_≡_};
 ghost use Rattle.report.specs.Values.{placeOf, dayOf, vatOf};
 ghost use Rattle.settlement.specs.Tax as reading;
 ghost use Rattle.element.specs.LinkDoc.{linkDoc};
 ghost use Rattle.values.specs.Sites.{lentOf};
 ghost use Rattle.values.specs.Told.{Told};
-ghost use Rattle.groups.specs.Taxes.{vatStateOf, freshCodeOf, pointSays, tradeTaxSays};
+ghost use Rattle.groups.specs.Taxes.{vatStateOf, vatCategory, freshCodeOf, pointSays, basisAmount, calculatedAmount, tradeTaxSays};
 use crate::categories::category_in;
 use crate::shapes::Category;
 use crate::shapes::PointCode;
@@ -15,12 +16,11 @@ use names::Message;
 use names::Path;
 use names::Term;
 use report::Day;
-use report::Index;
 use report::Place;
 use report::Text;
 use report::Vat;
 use values::DateSaid;
-use values::Site;
+use values::RequiredAmount;
 
 // What a VAT breakdown makes of the point date and code, and where the next entry goes.
 pub struct VatSaid {
@@ -55,19 +55,12 @@ fn point_date(
             day: Day::On(d),
             at,
         },
-        Day::Absent => values::date(
-            table,
-            text,
-            links,
-            mode,
-            entries,
-            at,
-            true,
-            Path::TaxPointDateTimeString,
-            Path::TaxPointDateString,
-            n,
-            b"TaxPointDate",
-        ),
+        Day::Absent => {
+            let p = Path::TaxPointDateTimeString;
+            let q = Path::TaxPointDateString;
+            let want = b"TaxPointDate";
+            values::date(table, text, links, mode, entries, at, true, p, q, n, want)
+        }
     }
 }
 
@@ -93,24 +86,18 @@ fn fresh_code(
             },
             at,
         },
-        VatPointDateCode::Unknown => VatSaid {
-            state: VatState {
-                point,
-                code: PointCode::Absent,
-                first: Text::At(p),
-            },
-            at: values::say(
-                entries,
-                at,
-                Message::UnknownVatPointCode,
-                Site {
-                    path: Path::TradeTaxDueDateTypeCode,
-                    term: Term::Bt8,
-                    index: Index::Absent,
+        VatPointDateCode::Unknown => {
+            let site = values::site(Path::TradeTaxDueDateTypeCode, Term::Bt8);
+            let message = Message::UnknownVatPointCode;
+            VatSaid {
+                state: VatState {
+                    point,
+                    code: PointCode::Absent,
+                    first: Text::At(p),
                 },
-                Text::At(p),
-            ),
-        },
+                at: values::say(entries, at, message, site, Text::At(p)),
+            }
+        }
     }
 }
 
@@ -131,19 +118,11 @@ fn again_code(
     if text::same(element::shown(text, first), element::shown(text, p)) {
         return VatSaid { state: s, at };
     }
+    let site = values::site(Path::SettlementTradeTaxDueDateTypeCode, Term::Bt8);
+    let message = Message::SecondVatPointCode;
     VatSaid {
         state: s,
-        at: values::say(
-            entries,
-            at,
-            Message::SecondVatPointCode,
-            Site {
-                path: Path::SettlementTradeTaxDueDateTypeCode,
-                term: Term::Bt8,
-                index: Index::Absent,
-            },
-            Text::At(p),
-        ),
+        at: values::say(entries, at, message, site, Text::At(p)),
     }
 }
 
@@ -201,6 +180,86 @@ fn point(
     }
 }
 
+// BT-116 of element n, in the VAT breakdown of an index.
+fn basis_amount(
+    table: &[u32],
+    text: &[u8],
+    links: &[u16],
+    mode: u32,
+    rules: u32,
+    currency: &[u8],
+    entries: &mut [i64],
+    at: usize,
+    index: u32,
+    n: usize,
+) -> RequiredAmount
+    ensures { λ r. ⌜ Told (basisAmount (lentOf mode rules (now (currency .entry))) (linkDoc (now (table .entry)) (now (text .entry)) (now (links .entry))) index n) (now (entries .entry)) at (r .amount .0) (now (entries .exit)) (r .at) ⌝ }
+{
+    let site = values::grouped(Path::TradeTaxBasisAmount, Term::Bt116, index);
+    values::required_amount(
+        table,
+        text,
+        links,
+        mode,
+        rules,
+        currency,
+        entries,
+        at,
+        Rule::Br45,
+        Path::SettlementTradeTax,
+        site,
+        n,
+        b"BasisAmount",
+    )
+}
+
+// BT-117 of element n, in the VAT breakdown of an index.
+fn calculated_amount(
+    table: &[u32],
+    text: &[u8],
+    links: &[u16],
+    mode: u32,
+    rules: u32,
+    currency: &[u8],
+    entries: &mut [i64],
+    at: usize,
+    index: u32,
+    n: usize,
+) -> RequiredAmount
+    ensures { λ r. ⌜ Told (calculatedAmount (lentOf mode rules (now (currency .entry))) (linkDoc (now (table .entry)) (now (text .entry)) (now (links .entry))) index n) (now (entries .entry)) at (r .amount .0) (now (entries .exit)) (r .at) ⌝ }
+{
+    let site = values::grouped(Path::TradeTaxCalculatedAmount, Term::Bt117, index);
+    values::required_amount(
+        table,
+        text,
+        links,
+        mode,
+        rules,
+        currency,
+        entries,
+        at,
+        Rule::Br46,
+        Path::SettlementTradeTax,
+        site,
+        n,
+        b"CalculatedAmount",
+    )
+}
+
+// Where the category and rate of a VAT breakdown are said.
+fn vat_category() -> Category
+    ensures { λ r. ⌜ r ≡ vatCategory ⌝ }
+{
+    Category {
+        code: Path::TradeTaxTypeCode,
+        whole: Path::SettlementTradeTax,
+        share: Path::TradeTaxRateApplicablePercent,
+        category: Term::Bt118,
+        rate: Term::Bt119,
+        rule: Rule::Br47,
+    }
+}
+
 // The VAT breakdown that element n is, the one of this index.
 pub fn trade_tax(
     table: &[u32],
@@ -217,65 +276,15 @@ pub fn trade_tax(
 ) -> TradeTaxSaid
     ensures { λ r. ⌜ Told (tradeTaxSays (lentOf mode rules (now (currency .entry))) (linkDoc (now (table .entry)) (now (text .entry)) (now (links .entry))) (vatStateOf index s) n) (now (entries .entry)) at ((vatStateOf index (r .state), vatOf (r .vat))) (now (entries .exit)) (r .at) ⌝ }
 {
-    let group = Path::SettlementTradeTax;
+    let g = index;
     let moment = point(table, text, links, mode, entries, at, index, s, n);
-    let taxable = values::required_amount(
-        table,
-        text,
-        links,
-        mode,
-        rules,
-        currency,
-        entries,
-        moment.at,
-        Rule::Br45,
-        group,
-        Site {
-            path: Path::TradeTaxBasisAmount,
-            term: Term::Bt116,
-            index: Index::At(index),
-        },
-        n,
-        b"BasisAmount",
-    );
-    let tax = values::required_amount(
-        table,
-        text,
-        links,
-        mode,
-        rules,
-        currency,
-        entries,
-        taxable.at,
-        Rule::Br46,
-        group,
-        Site {
-            path: Path::TradeTaxCalculatedAmount,
-            term: Term::Bt117,
-            index: Index::At(index),
-        },
-        n,
-        b"CalculatedAmount",
-    );
-    let category = category_in(
-        table,
-        text,
-        links,
-        mode,
-        rules,
-        entries,
-        tax.at,
-        Category {
-            code: Path::TradeTaxTypeCode,
-            whole: group,
-            share: Path::TradeTaxRateApplicablePercent,
-            category: Term::Bt118,
-            rate: Term::Bt119,
-            rule: Rule::Br47,
-        },
-        index,
-        n,
-    );
+    let at = moment.at;
+    let taxable = basis_amount(table, text, links, mode, rules, currency, entries, at, g, n);
+    let at = taxable.at;
+    let tax = calculated_amount(table, text, links, mode, rules, currency, entries, at, g, n);
+    let at = tax.at;
+    let of = vat_category();
+    let category = category_in(table, text, links, mode, rules, entries, at, of, index, n);
     let state = moment.state;
     let basis = taxable.amount;
     let due = tax.amount;

@@ -1,18 +1,13 @@
 use borrow.Author.Needs.{needs}
-use Rattle.groups.proofs.Made.{pair-made}
-use Rattle.groups.specs.Categories.{categorySays}
+use Rattle.groups.proofs.Steps.{category-told}
 use Rattle.text.specs.Utf8.{bytes, encode}
-use Rattle.values.proofs.Telling.{said-then}
 use Rattle.groups.proofs.categories.category_in.Statement.{statement}
 use Rattle.groups.proofs.categories.category_in.Tie as tie
 
 returns : tie.Need-returns
-unfolding categorySays bytes encode
-returns c =
-    let rate = c .before .before .percent .ensures in
-    let code = c .before .before .before .before .before .before .required-code .ensures in
-    record { same = pair-made (code .same) (rate .same); said = said-then (c .before .before .before .before .before .before .before .before .before .before .say-non-vat .ensures) (said-then (code .said) (rate .said)) }
+unfolding bytes encode
+returns c = category-told _ _ _ _ _ _ (c .before .before .before .before .before .before .before .before .before .before .before .before .before .before .before .before .grouped .ensures) (c .before .before .before .before .before .before .before .before .before .before .before .before .grouped2 .ensures) (c .before .before .before .before .before .before .grouped3 .ensures) (c .before .before .before .before .before .before .before .before .before .before .before .before .before .before .say-non-vat .ensures) (c .before .before .before .before .before .before .before .before .required-code .ensures) (c .before .before .percent .ensures)
 
 pub category-in-spec : {M : Type 1} → statement M
 category-in-spec =
-    tie.close (tie.spec (λ c κs. search needs) (λ c. search needs) (λ c κs. search needs) (λ c. search needs) (λ c κs. search needs) (λ c. search needs) returns)
+    tie.close (tie.spec (λ c κs. search needs) (λ c κs. search needs) (λ c κs. search needs) (λ c κs. search needs) (λ c κs. search needs) (λ c κs. search needs) (λ c. search needs) returns)

@@ -1,17 +1,13 @@
 use borrow.Author.Needs.{needs}
-use Rattle.settlement.specs.Settlement as reading
+use Rattle.groups.proofs.Steps.{period-told}
 use Rattle.text.specs.Utf8.{bytes, encode}
-use Rattle.values.proofs.Telling.{said-then}
 use Rattle.groups.proofs.periods.period.Statement.{statement}
 use Rattle.groups.proofs.periods.period.Tie as tie
 
 returns : tie.Need-returns
-unfolding reading.periodOf bytes encode
-returns c =
-    let a = c .before .before .before .before .before .date .ensures in
-    let b = c .before .date2 .ensures in
-    record { same = rw (a .same, b .same); said = said-then (a .said) (b .said) }
+unfolding bytes encode
+returns c = period-told _ _ _ (c .before .before .before .before .before .before .date .ensures) (c .before .date2 .ensures)
 
 pub period-spec : {M : Type 1} → statement M
 period-spec =
-    tie.close (tie.spec (λ c. search needs) (λ c κs. search needs) (λ c. search needs) (λ c κs. search needs) (λ c. search needs) returns)
+    tie.close (tie.spec (λ c κs. search needs) (λ c κs. search needs) (λ c. search needs) returns)

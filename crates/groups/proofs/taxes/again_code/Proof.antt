@@ -10,8 +10,8 @@ returns c = rw (← c .before .before .before .shown .ensures, ← c .before .be
 
 returns-2 : tie.Need-returns-2
 unfolding reading.againCode
-returns-2 c = rw (← c .before .before .before .before .before .before .shown .ensures, ← c .before .before .before .before .before .shown2 .ensures, ← c .before .before .before .before .same .ensures, c .before .before .before .if1 .left) (told-said (c .before .say .ensures))
+returns-2 c = rw (← c .before .before .before .before .before .before .before .shown .ensures, ← c .before .before .before .before .before .before .shown2 .ensures, ← c .before .before .before .before .before .same .ensures, c .before .before .before .before .if1 .left) (told-said (rw (c .before .before .before .site .ensures) at (c .before .say .ensures)))
 
 pub again-code-spec : {M : Type 1} → statement M
 again-code-spec =
-    tie.close (tie.spec (λ c κs. search needs) (λ c κs. search needs) (λ c κs. search needs) returns (λ c κs. search needs) (λ c. search needs) returns-2)
+    tie.close (tie.spec (λ c κs. search needs) (λ c κs. search needs) (λ c κs. search needs) returns (λ c κs. search needs) (λ c κs. search needs) (λ c. search needs) returns-2)

@@ -10,8 +10,8 @@ returns c = rw (← c .before .before .before .before .shown .ensures, ← c .be
 
 returns-2 : tie.Need-returns-2
 unfolding freshCodeOf
-returns-2 c = rw (← c .before .before .before .before .before .before .shown .ensures, ← c .before .before .before .before .before .vat-point-date-code-from-cii .ensures, c .before .before .before .enum-told .given .1) (told-said (c .before .say .ensures))
+returns-2 c = rw (← c .before .before .before .before .before .before .before .shown .ensures, ← c .before .before .before .before .before .before .vat-point-date-code-from-cii .ensures, c .before .before .before .before .enum-told .given .1) (told-said (rw (c .before .before .before .site .ensures) at (c .before .say .ensures)))
 
 pub fresh-code-spec : {M : Type 1} → statement M
 fresh-code-spec =
-    tie.close (tie.spec (λ c κs. search needs) (λ c κs. search needs) (λ c. search needs) (λ c. search needs) (λ c κs. search needs) returns (λ c. search needs) returns-2)
+    tie.close (tie.spec (λ c κs. search needs) (λ c κs. search needs) (λ c. search needs) (λ c. search needs) (λ c κs. search needs) (λ c κs. search needs) returns (λ c. search needs) returns-2)

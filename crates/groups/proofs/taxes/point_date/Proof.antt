@@ -11,8 +11,8 @@ returns c = rw (c .before .point .given .1) (told-silent _ _)
 
 returns-2 : tie.Need-returns-2
 unfolding reading.pointDate bytes encode
-returns-2 c = rw (c .before .before .before .before .enum-told .given .1) (c .before .date .ensures)
+returns-2 c = rw (c .before .before .before .before .before .enum-told .given .1) (c .before .date .ensures)
 
 pub point-date-spec : {M : Type 1} → statement M
 point-date-spec =
-    tie.close (tie.spec (λ c. search needs) (λ c. search needs) (λ c. search needs) (λ c κs. search needs) returns (λ c. search needs) returns-2)
+    tie.close (tie.spec (λ c. search needs) (λ c. search needs) (λ c κs. search needs) returns (λ c. search needs) returns-2)
