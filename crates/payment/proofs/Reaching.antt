@@ -54,13 +54,13 @@ module _ (t x l : List ℕ) (n : ℕ) (w₀ : Code.Walk) (h₀ e₀ u₀ : List 
 
 -- the account that still waits is put
 pub acted :
-    (D : Doc ℕ Place) (p : Payment Place) (n : ℕ) {w₀ w : Code.Walk} {x : List ℕ} {h₀ h h′ e₀ e u₀ u : List ℤ} {r : ℕ} →
-    payingOf w₀ ≡ payingStart p →
+    (D : Doc ℕ Place) (p : Payment Place) (n : ℕ) {w₀ w : Code.Walk} {x : List ℕ} {h₀ h h′ e₀ e u₀ u : List ℤ} {a b k r : ℕ} →
+    (payingOf w₀ ≡ payingStart p) × (w₀ .«held_at» ≡ a) × (w₀ .at ≡ b) × (w₀ .count ≡ k) →
     Walked (foldl (paying D) (payingOf w₀) (D .kids n)) w₀ w x h₀ h e₀ e u₀ u →
     Placed h (w .«held_at») (rowsOf heldRow (map transfer (waitingRows (w .waiting)))) h′ r →
-    Acted (paymentMeansOf D p n) x (paymentOf (w .payment)) h₀ (w₀ .«held_at») h′ r e₀ (w₀ .at) e (w .at) u₀ (w₀ .count) u (w .count)
+    Acted (paymentMeansOf D p n) x (paymentOf (w .payment)) h₀ a h′ r e₀ b e (w .at) u₀ k u (w .count)
 unfolding paymentMeansOf paid
-acted D p n {w₀} {w} {x} {h₀} {h} {h′} {e₀} {e} {u₀} {u} {r} s k b = go (rw s at k)
+acted D p n {w₀} {w} {x} {h₀} {h} {h′} {e₀} {e} {u₀} {u} {a} {b} {k} {r} s m q = rw (← s .1, ← s .2, ← s .3) (go (rw (s .0) at m))
   where
     go : Walked (foldl (paying D) (payingStart p) (D .kids n)) w₀ w x h₀ h e₀ e u₀ u → Acted (paymentMeansOf D p n) x (paymentOf (w .payment)) h₀ (w₀ .«held_at») h′ r e₀ (w₀ .at) e (w .at) u₀ (w₀ .count) u (w .count)
-    go k = record { same = k .payment; held = rw (k .whole) (held-then (k .rows) (waitingRows (w .waiting)) (k .held) b); said = k .said; noted = k .noted }
+    go m = record { same = m .payment; held = rw (m .whole) (held-then (m .rows) (waitingRows (w .waiting)) (m .held) q); said = m .said; noted = m .noted }

@@ -1,7 +1,8 @@
 // The walk over the children of a payment means.
+ghost use mathlib.Core.Path.{_≡_};
 ghost use mathlib.Core.List.{List, foldl};
 ghost use lib.IntN.{ℤ};
-ghost use Rattle.settlement.specs.Payments.{unknown, part, paying, paymentMeansOf};
+ghost use Rattle.settlement.specs.Payments.{unknown, payingStart, part, paying, paymentMeansOf};
 ghost use Rattle.element.specs.LinkDoc.{linkDoc};
 ghost use Rattle.unmapped.specs.Acted.{Acted};
 ghost use Rattle.payment.specs.Walks.{paymentOf, payingOf};
@@ -28,6 +29,27 @@ pub struct PaymentSaid {
     pub held_at: usize,
     pub at: usize,
     pub count: usize,
+}
+
+// The walk before the first child: a payment means was met, and no account waits.
+fn started(payment: Payment, held_at: usize, at: usize, count: usize) -> Walk
+    ensures { λ r. ⌜ (payingOf r ≡ payingStart (paymentOf payment)) × (r .«held_at» ≡ «held_at») × (r .at ≡ at) × (r .count ≡ count) ⌝ }
+{
+    let code = payment.code;
+    let words = payment.text;
+    let means = payment.means;
+    Walk {
+        payment: Payment {
+            met: true,
+            code,
+            text: words,
+            means,
+        },
+        waiting: Waiting::Nothing,
+        held_at,
+        at,
+        count,
+    }
 }
 
 // A child that is not mapped is noted.
@@ -118,21 +140,7 @@ pub fn payment_means(
 ) -> PaymentSaid
     ensures { λ r. ⌜ Acted (paymentMeansOf (linkDoc (now (table .entry)) (now (text .entry)) (now (links .entry))) (paymentOf payment) n) (now (text .entry)) (paymentOf (r .payment)) (now (held .entry)) «held_at» (now (held .exit)) (r .«held_at») (now (entries .entry)) at (now (entries .exit)) (r .at) (now (unmapped .entry)) count (now (unmapped .exit)) (r .count) ⌝ }
 {
-    let code = payment.code;
-    let words = payment.text;
-    let means = payment.means;
-    let start = Walk {
-        payment: Payment {
-            met: true,
-            code,
-            text: words,
-            means,
-        },
-        waiting: Waiting::Nothing,
-        held_at,
-        at,
-        count,
-    };
+    let start = started(payment, held_at, at, count);
     let walk = read_children(table, text, links, held, entries, unmapped, start, n);
     let paid = walk.payment;
     let waiting = walk.waiting;

@@ -1,7 +1,7 @@
 -- Laws of states one after the other.
-use mathlib.Core.Path.{_≡_, refl, ap, subst}
+use mathlib.Core.Path.{_≡_, refl, subst}
 use mathlib.Core.Bool.{Bool, true, false, cond, _&&_}
-use mathlib.Core.List.{List, [], _∷_, _++_}
+use mathlib.Core.List.{List, [], _∷_, _++_, append-nil}
 use mathlib.Core.Option.{Option, some}
 use Prim.Native.Nat.{ℕ}
 use lib.IntN.{ℤ}
@@ -57,10 +57,6 @@ did-noted {x} {a} {s} {r} {e} {u} p = record { same = rw (p .0); said = rw (p .1
 -- a tax total without a currency
 pub tax-told : {A : Says Place (Option ℤ)} {s r : State.Summing} {v w : Amount} {e e′ : List ℤ} {at : ℕ} → Told A e (s .at) (amountOf v) e′ at → r ≡ record { sums = setVat v w (s .sums); at = at; count = s .count } → Summed (withVat (A .0) (amountOf w) (A .1) (sumsOf (s .sums))) s e r e′
 tax-told p q = rw (← p .same) (taxed-summed q (p .said))
-
-pub append-nil : {A : Type 0} (l : List A) → l ++ [] ≡ l
-append-nil [] = refl
-append-nil (a ∷ l) = ap (λ (m : List _). a ∷ m) (append-nil l)
 
 -- entries before those of a state
 abbrev saying : List (Entry Place) → Summing Place → Summing Place

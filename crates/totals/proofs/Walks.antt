@@ -1,7 +1,7 @@
 -- Laws of the loop over a summation's children, and of the totals after it.
 use mathlib.Core.Path.{_≡_, refl, sym, ap, _∙_, subst}
 use mathlib.Core.Logic.{_≢_}
-use mathlib.Core.List.{List, [], _∷_, foldl}
+use mathlib.Core.List.{List, [], _∷_, foldl, append-nil}
 use mathlib.Core.Option.{Option, none, some}
 use Prim.Native.Nat.{ℕ, _-_, _/_, _≤_, _<_}
 use lib.IntN.{ℤ}
@@ -28,7 +28,7 @@ use Rattle.totals.specs.State.{sumsOf, unread, amounts, Did}
 use Rattle.totals.specs.Reading.{lineTotal, taxBasisTotal, grandTotal, duePayable, totalled, duesSaid, Ended, totalsOf}
 use Rattle.totals.specs.declared.state.Summing as State
 use Rattle.totals.specs.declared.state.TotalsSaid as Code
-use Rattle.totals.proofs.Steps.{over, append-nil, tax-over}
+use Rattle.totals.proofs.Steps.{over, tax-over}
 
 -- a child after what was read before it
 module _ (L : Lent) (D : Doc ℕ Place) (cur : Currencies Place) where

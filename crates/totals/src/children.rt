@@ -12,6 +12,7 @@ use crate::optional::allowance_total;
 use crate::optional::charge_total;
 use crate::optional::rounding_amount;
 use crate::optional::total_prepaid;
+use crate::state::Frame;
 use crate::state::Summing;
 use crate::state::Sums;
 use crate::sum::Sum;
@@ -19,7 +20,6 @@ use crate::sum::sum_of;
 use crate::tax::tax_total;
 use names::Parent;
 use report::Amount;
-use report::Text;
 use report::Unmapped;
 
 // The state before the first child.
@@ -53,23 +53,24 @@ fn noted(table: &[u32], text: &[u8], unmapped: &mut [i64], s: Summing, c: usize)
     }
 }
 
-// The state after child c of a summation n.
+// The state after child c of a summation.
 fn summand(
     table: &[u32],
     text: &[u8],
     links: &[u16],
-    mode: u32,
     currency: &[u8],
     entries: &mut [i64],
     unmapped: &mut [i64],
-    bt5: Text,
-    bt6: Text,
+    frame: Frame,
     s: Summing,
-    n: usize,
     c: usize,
 ) -> Summing
-    ensures { λ r. ⌜ Did (now (text .entry)) (summing (lentOf mode 0 (now (currency .entry))) (linkDoc (now (table .entry)) (now (text .entry)) (now (links .entry))) (currencies bt5 bt6) n (sumsOf (s .sums)) c) (s .at) (s .count) (now (entries .entry)) (now (unmapped .entry)) r (now (entries .exit)) (now (unmapped .exit)) ⌝ }
+    ensures { λ r. ⌜ Did (now (text .entry)) (summing (lentOf (frame .mode) 0 (now (currency .entry))) (linkDoc (now (table .entry)) (now (text .entry)) (now (links .entry))) (currencies (frame .bt5) (frame .bt6)) (frame .n) (sumsOf (s .sums)) c) (s .at) (s .count) (now (entries .entry)) (now (unmapped .entry)) r (now (entries .exit)) (now (unmapped .exit)) ⌝ }
 {
+    let mode = frame.mode;
+    let bt5 = frame.bt5;
+    let bt6 = frame.bt6;
+    let n = frame.n;
     let sum = sum_of(table, text, links, c);
     match sum {
         Sum::Required => s,
@@ -84,44 +85,28 @@ fn summand(
     }
 }
 
-// The state after all children of a summation n.
+// The state after all children of a summation.
 pub(crate) fn summed(
     table: &[u32],
     text: &[u8],
     links: &[u16],
-    mode: u32,
     currency: &[u8],
     entries: &mut [i64],
     at: usize,
     unmapped: &mut [i64],
     count: usize,
-    bt5: Text,
-    bt6: Text,
-    n: usize,
+    frame: Frame,
 ) -> Summing
-    ensures { λ r. ⌜ Did (now (text .entry)) (summed (lentOf mode 0 (now (currency .entry))) (linkDoc (now (table .entry)) (now (text .entry)) (now (links .entry))) (currencies bt5 bt6) n) at count (now (entries .entry)) (now (unmapped .entry)) r (now (entries .exit)) (now (unmapped .exit)) ⌝ }
+    ensures { λ r. ⌜ Did (now (text .entry)) (summed (lentOf (frame .mode) 0 (now (currency .entry))) (linkDoc (now (table .entry)) (now (text .entry)) (now (links .entry))) (currencies (frame .bt5) (frame .bt6)) (frame .n)) at count (now (entries .entry)) (now (unmapped .entry)) r (now (entries .exit)) (now (unmapped .exit)) ⌝ }
 {
     let mut s = blank(at, count);
-    let mut c = links::first_of(links, n);
+    let mut c = links::first_of(links, frame.n);
     let mut left = links.len() / 3;
     while 0 < left {
         if c == 0 {
             return s;
         }
-        s = summand(
-            table,
-            text,
-            links,
-            mode,
-            currency,
-            entries,
-            unmapped,
-            bt5,
-            bt6,
-            s,
-            n,
-            c,
-        );
+        s = summand(table, text, links, currency, entries, unmapped, frame, s, c);
         c = links::next_of(links, c);
         left -= 1;
     }

@@ -3,6 +3,7 @@ ghost use mathlib.Core.Path.{_≡_};
 ghost use Rattle.totals.specs.State.{setAllowance, setCharge, setVat, setPaid, setRounding};
 use amount::InvoiceAmount;
 use report::Amount;
+use report::Text;
 
 // The amounts that may be absent: BT-107, BT-108, BT-110, BT-111, BT-113 and BT-114.
 pub struct Sums {
@@ -35,6 +36,15 @@ pub(crate) struct Summing {
     pub(crate) sums: Sums,
     pub(crate) at: usize,
     pub(crate) count: usize,
+}
+
+// What stays the same while the children of a summation are read: the mode, BT-5 and BT-6 as read so
+// far, and the summation n.
+pub(crate) struct Frame {
+    pub(crate) mode: u32,
+    pub(crate) bt5: Text,
+    pub(crate) bt6: Text,
+    pub(crate) n: usize,
 }
 
 // The amounts with BT-107 set.

@@ -10,6 +10,7 @@ ghost use Rattle.unmapped.specs.Acted.{Acted};
 ghost use Rattle.totals.specs.Reading.{currencies, totalsOf};
 use crate::children::summed;
 use crate::required::totalled;
+use crate::state::Frame;
 use crate::state::TotalsSaid;
 use report::Text;
 
@@ -32,19 +33,17 @@ pub fn totals(
 ) -> TotalsSaid
     ensures { λ r. ⌜ ((h : List ℤ) (heldAt : ℕ) → Acted (reading.totals (lentOf mode rules (now (currency .entry))) (linkDoc (now (table .entry)) (now (text .entry)) (now (links .entry))) (currencies bt5 bt6) n) (now (text .entry)) (some (totalsOf (r .totals))) h heldAt h heldAt (now (entries .entry)) at (now (entries .exit)) (r .at) (now (unmapped .entry)) count (now (unmapped .exit)) (r .count)) ⌝ }
 {
+    let frame = Frame { mode, bt5, bt6, n };
     let s = summed(
         table,
         text,
         links,
-        mode,
         currency,
         entries,
         at,
         unmapped,
         count,
-        bt5,
-        bt6,
-        n,
+        frame,
     );
     totalled(table, text, links, mode, rules, currency, entries, s, n)
 }

@@ -51,7 +51,7 @@ fn value_of(answer: ParsedAmount) -> Amount
     }
 }
 
-// The message of an answer; an empty text is malformed.
+// The message of an answer: an empty text is malformed. That of an amount is not said.
 fn message_of(answer: ParsedAmount) -> Message
     ensures { λ r. ⌜ r ≡ reading.amountMessage (amountAnswer answer .message) ⌝ }
 {

@@ -47,7 +47,7 @@ fn value_of(answer: ParsedDate) -> Day
     }
 }
 
-// The message of an answer.
+// The message of an answer. That of a date is not said.
 fn message_of(answer: ParsedDate) -> Message
     ensures { λ r. ⌜ r ≡ reading.dateMessage (dateAnswer answer .message) ⌝ }
 {

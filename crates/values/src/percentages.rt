@@ -31,7 +31,7 @@ fn value_of(answer: ParsedPercentage) -> Percent
     }
 }
 
-// The message of an answer.
+// The message of an answer. That of a percentage is not said.
 fn message_of(answer: ParsedPercentage) -> Message
     ensures { λ r. ⌜ r ≡ reading.percentMessage (percentageAnswer answer .message) ⌝ }
 {

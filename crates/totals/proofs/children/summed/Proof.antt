@@ -10,10 +10,10 @@ use Rattle.totals.proofs.children.summed.Statement.{statement}
 use Rattle.totals.proofs.children.summed.Tie as tie
 
 abbrev Inv-loop : tie.InvT-loop
-Inv-loop table text links mode currency entries₀ at unmapped₀ count bt5 bt6 n s₀ c₀ left₀ entries unmapped s c left = (length entries ≡ length entries₀) × (length unmapped ≡ length unmapped₀) × Walked (lentOf mode 0 currency) (linkDoc table text links) (currencies bt5 bt6) n links text at count entries₀ unmapped₀ left c s entries unmapped
+Inv-loop table text links currency entries₀ at unmapped₀ count frame s₀ c₀ left₀ entries unmapped s c left = (length entries ≡ length entries₀) × (length unmapped ≡ length unmapped₀) × Walked (lentOf (frame .mode) 0 currency) (linkDoc table text links) (currencies (frame .bt5) (frame .bt6)) (frame .n) links text at count entries₀ unmapped₀ left c s entries unmapped
 
 abbrev μ-loop : tie.MeasureT-loop
-μ-loop table text links mode currency entries₀ at unmapped₀ count bt5 bt6 n s₀ c₀ left₀ entries unmapped s c left = left
+μ-loop table text links currency entries₀ at unmapped₀ count frame s₀ c₀ left₀ entries unmapped s c left = left
 
 loop-holds : tie.Need-loop-holds Inv-loop μ-loop
 loop-holds c = (refl, refl, walk-start _ _ _ _ _ _ _ _ _ _ (c .before .blank .ensures) (c .first-of .ensures))
