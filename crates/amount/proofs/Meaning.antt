@@ -12,9 +12,9 @@ use lib.ListN.{length, take, length-append}
 use lib.IntN.{ℤ}
 use Rattle.text.specs.Answer.{Answer, read, says}
 use Rattle.text.specs.Digits.{digit, allDigits, number}
-use Rattle.text.specs.Trim.{trimOf}
 use Rattle.text.proofs.Bools.{nested}
 use Rattle.text.proofs.Digits.{number-append, all-append, number-below}
+use Rattle.characters.specs.Trim.{trimOf}
 use Rattle.amount.specs.declared.amount.ParsedAmount.{ParsedAmount}
 use Rattle.amount.specs.declared.amount.ParsedAmount.the-variants.{Malformed}
 use Rattle.amount.specs.declared.decimal.Walk.{Walk}

@@ -8,7 +8,7 @@ use lib.IntN.{ℤ, pos, negsuc}
 use lib.Signed.{leZ}
 use Rattle.text.specs.Answer.{Answer, read, says, silent}
 use Rattle.text.specs.Digits.{number}
-use Rattle.text.specs.Trim.{trimOf}
+use Rattle.characters.specs.Trim.{trimOf}
 use Rattle.amount.specs.Decimal.{empty, negative, whole, fraction, decimal, signed}
 
 -- the hundredths of a decimal of at most two decimals

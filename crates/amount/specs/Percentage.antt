@@ -7,7 +7,7 @@ use lib.ListN.{length}
 use lib.IntN.{ℤ}
 use Rattle.text.specs.Answer.{Answer, read, says}
 use Rattle.text.specs.Digits.{number}
-use Rattle.text.specs.Trim.{trimOf}
+use Rattle.characters.specs.Trim.{trimOf}
 use Rattle.amount.specs.Decimal.{negative, whole, fraction, decimal, signed}
 
 -- 6 no xs:decimal, empty too; 7 over 18 digits, counting zeros; the digits without the period, and how many stood behind it

@@ -99,7 +99,7 @@ impl InvoiceAmount {
     pub fn parse(s: &[u8], mode: u32) -> ParsedAmount
         ensures { λ r. ⌜ amountAnswer r ≡ parsedAmount mode (now (s .entry)) ⌝ }
     {
-        finish(walk_on(text::trimmed_text(s, mode), Walk::Start))
+        finish(walk_on(characters::trimmed_text(s, mode), Walk::Start))
     }
 
     // The hundredths, for the writer of numbers.

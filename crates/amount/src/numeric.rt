@@ -73,7 +73,7 @@ impl Percentage {
     pub fn parse(s: &[u8], mode: u32) -> ParsedPercentage
         ensures { λ r. ⌜ percentageAnswer r ≡ parsedPercentage mode (now (s .entry)) ⌝ }
     {
-        finish(walk_on(text::trimmed_text(s, mode), Walk::Start))
+        finish(walk_on(characters::trimmed_text(s, mode), Walk::Start))
     }
 
     // The number without its point, for the writer of numbers.

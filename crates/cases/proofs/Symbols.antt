@@ -14,7 +14,7 @@ use lib.Seq.{drop-cons, drop-drop, sets-eq, length-sets, take-append-seam}
 use Rattle.text.specs.Range.{within}
 use Rattle.text.specs.Span.{partOf}
 use Rattle.text.proofs.Bools.{both, not-both}
-use Rattle.text.proofs.Characters.{rest}
+use Rattle.text.proofs.Spans.{rest}
 use Rattle.text.proofs.Ranges.{within-range}
 use Rattle.cases.specs.declared.Symbol.{Symbol}
 use Rattle.cases.specs.declared.Symbol.the-variants.{Byte, Hole, Bad}

@@ -11,8 +11,8 @@ use lib.ListN.{length, getD, drop, drop-of-length-le}
 use lib.Seq.{drop-cons}
 use Rattle.text.specs.Answer.{Answer, read, says}
 use Rattle.text.specs.Digits.{digit, allDigits, number}
-use Rattle.text.specs.Trim.{trimOf}
 use Rattle.text.proofs.Bools.{nested}
+use Rattle.characters.specs.Trim.{trimOf}
 use Rattle.date.specs.Date.{isDay, year, month, day, eightDigits, dateOf, parsedDate}
 use Rattle.date.specs.Walk.{numbered, gathered}
 use Rattle.date.proofs.Parts.{year-is, month-is, day-is}

@@ -7,7 +7,7 @@ use lib.ListN.{length, take, drop}
 use Rattle.text.specs.Answer.{Answer, read, says}
 use Rattle.text.specs.Digits.{allDigits, number}
 use Rattle.text.specs.Range.{within}
-use Rattle.text.specs.Trim.{trimOf}
+use Rattle.characters.specs.Trim.{trimOf}
 
 -- a leap year: divisible by four, and a century year only where it is divisible by 400 (ISO 8601, the Gregorian calendar)
 unfoldable pub leap : ℕ → Bool

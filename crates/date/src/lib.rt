@@ -115,5 +115,5 @@ fn date_of(t: &[u8]) -> ParsedDate
 pub fn parse(s: &[u8], mode: u32) -> ParsedDate
     ensures { λ r. ⌜ dateAnswer r ≡ parsedDate mode (now (s .entry)) ⌝ }
 {
-    date_of(text::trimmed_text(s, mode))
+    date_of(characters::trimmed_text(s, mode))
 }

@@ -13,8 +13,8 @@ use mir.Val.{toZ, ofZ}
 use mir.Facts.{toZ-pos}
 use Rattle.text.specs.declared.span.Span.{Span}
 use Rattle.text.specs.Span.{partOf}
-use Rattle.text.specs.Trim.{trimmed}
-use Rattle.text.proofs.Trims.{trimmed-in}
+use Rattle.characters.specs.Trim.{trimmed}
+use Rattle.characters.proofs.Trims.{trimmed-in}
 use Rattle.amount.proofs.Signs.{read64}
 use Rattle.edges.specs.declared.answers.Numbers.{Numbers}
 use Rattle.edges.specs.declared.leaves.Leaf.{Leaf}

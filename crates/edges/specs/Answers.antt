@@ -14,8 +14,8 @@ use Rattle.text.specs.Answer.{Answer}
 use Rattle.text.specs.Digits.{digit}
 use Rattle.text.specs.Order.{equal, order}
 use Rattle.text.specs.Span.{partOf}
-use Rattle.text.specs.Trim.{trimmed}
-use Rattle.text.specs.Utf8.{utf8}
+use Rattle.characters.specs.Trim.{trimmed}
+use Rattle.characters.specs.Characters.{utf8}
 use Rattle.amount.specs.Amount.{parsedAmount}
 use Rattle.amount.specs.Percentage.{parsedPercentage}
 use Rattle.date.specs.Date.{parsedDate}

@@ -6,7 +6,7 @@ ghost use lib.ListN.{length, take, drop};
 ghost use lib.IntN.{pos, natAbs};
 ghost use Rattle.text.specs.Order.{equal, order, ordering};
 ghost use Rattle.text.specs.Span.{partOf};
-ghost use Rattle.text.specs.Trim.{trimmed};
+ghost use Rattle.characters.specs.Trim.{trimmed};
 ghost use Rattle.amount.specs.Answers.{amountAnswer, percentageAnswer};
 ghost use Rattle.date.specs.Answers.{dateAnswer};
 ghost use Rattle.codes.specs.VatPoint.{vatPointAnswer};
@@ -127,7 +127,7 @@ fn truth_of(b: bool) -> i64
 fn of_trim(s: &[u8], mode: u32) -> Numbers
     ensures { λ r. ⌜ r ≡ numbers (places (trimmed mode (now (s .entry)))) ⌝ }
 {
-    let t = text::trim(s, mode);
+    let t = characters::trim(s, mode);
     two(t.start as i64, t.end as i64)
 }
 
@@ -305,7 +305,7 @@ fn answer(leaf: Leaf, n: u32, s: &[u8]) -> Numbers
     ensures { λ r. ⌜ r ≡ numbers (answerOf leaf n (now (s .entry))) ⌝ }
 {
     match leaf {
-        Leaf::Utf8 => one(truth_of(text::is_utf8(s))),
+        Leaf::Utf8 => one(truth_of(characters::is_utf8(s))),
         Leaf::Trim => of_trim(s, n),
         Leaf::Digit => one(truth_of(text::is_digit(cases::byte_at(s, 0)))),
         Leaf::Same => of_same(s, n),

@@ -11,8 +11,8 @@ use lib.Dec.{eqb, leb}
 use lib.ListN.{length, take, drop, length-drop}
 use Rattle.text.specs.Span.{clipped, cut}
 use Rattle.text.specs.declared.span.Span.{Span}
-use Rattle.text.specs.Trim.{trimmed, trimOf}
-use Rattle.text.proofs.Trims.{trimmed-in}
+use Rattle.characters.specs.Trim.{trimmed, trimOf}
+use Rattle.characters.proofs.Trims.{trimmed-in}
 use Rattle.amount.specs.Decimal.{empty}
 use Rattle.table.specs.Table.{cell, nameOf, textOf, named, found, firstOf}
 use Rattle.links.specs.Links.{linked}

@@ -5,7 +5,7 @@ use mathlib.Core.Option.{Option, none, some}
 use Prim.Native.Nat.{ℕ, _+_, _-_}
 use lib.Dec.{leb}
 use Rattle.text.specs.Span.{clipped}
-use Rattle.text.specs.Trim.{trimmed}
+use Rattle.characters.specs.Trim.{trimmed}
 use Rattle.report.specs.Rows.{Place}
 
 -- what a mode leaves of len bytes of a text from start on, and none where that is nothing

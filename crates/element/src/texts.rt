@@ -65,7 +65,7 @@ pub fn text_bytes<'a, 'b, 'c>(
 pub(crate) fn trimmed_at(text: &[u8], mode: u32, start: u32, len: u32) -> Text
     ensures { λ t. ⌜ textOf t ≡ trimmedAt (now (text .entry)) mode start len ⌝ }
 {
-    let kept = text::trim(text::clip(text, wide(start), wide(len)), mode);
+    let kept = characters::trim(text::clip(text, wide(start), wide(len)), mode);
     let from = kept.start;
     let end = kept.end;
     if end <= from {

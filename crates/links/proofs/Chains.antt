@@ -8,9 +8,9 @@ use Prim.Native.Nat.{ℕ, zero, suc, _+_, _*_, _-_, _/_, _≤_, _<_}
 use native.Mathlib.Omega.{arith}
 use borrow.Author.Tests.{ne-eqb, le-leb, lt-leb}
 use lib.ListN.{length, getD}
+use Rattle.text.proofs.Spans.{past}
 use Rattle.table.specs.Table.{records, cell, firstOf, found}
 use Rattle.links.specs.Links.{link, chain, linked, inFront, joins, linkOne, linkBelow, roomy, linkAll}
-use Rattle.table.proofs.Records.{past}
 
 -- the link that the code reads, and one past the end
 pub link-is : (l : List ℕ) (i k n : ℕ) → n ≡ getD l (i * 3 + k) 0 → n ≡ link l i k

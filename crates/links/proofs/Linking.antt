@@ -12,8 +12,8 @@ use lib.ListN.{length, set, replicate, length-set, length-replicate, getD-replic
 use lib.Seq.{getD-set-same, getD-set-other}
 use Rattle.text.proofs.Bools.{both}
 use Rattle.table.specs.Table.{records, cell, kin, below, kids, attrs}
-use Rattle.links.specs.Links.{link, chain, linked, inFront, joins, linkOne, linkBelow, roomy, linkAll, Blank}
 use Rattle.table.proofs.Kin.{Kin, kin-parts, kin-is, not-kin, from, below-from}
+use Rattle.links.specs.Links.{link, chain, linked, inFront, joins, linkOne, linkBelow, roomy, linkAll, Blank}
 
 -- a record that joins
 pub record Joined (kind p j : ℕ) : Type 0 where

@@ -5,7 +5,8 @@ use mathlib.Core.Option.{Option, none, some}
 use Prim.Native.Nat.{ℕ, _+_, _-_, _%_}
 use lib.Dec.{ltb, eqb}
 use lib.ListN.{length}
-use Rattle.text.specs.Utf8.{utf8, bytes}
+use Rattle.text.specs.Utf8.{bytes}
+use Rattle.characters.specs.Characters.{utf8}
 use Rattle.table.specs.Table.{records, cell, nameOf, textOf, named, firstFrom}
 
 -- 3: no records, or count of numbers not a multiple of 6

@@ -86,8 +86,8 @@ fn is_outside(table: &[u32], text: &[u8], j: usize) -> bool
 fn is_not_utf8(table: &[u32], text: &[u8], j: usize) -> bool
     ensures { λ b. ⌜ b ≡ notUtf8 (now (table .entry)) (now (text .entry)) j ⌝ }
 {
-    if text::is_utf8(name(table, text, j)) {
-        if text::is_utf8(joined_text(table, text, j)) {
+    if characters::is_utf8(name(table, text, j)) {
+        if characters::is_utf8(joined_text(table, text, j)) {
             return false;
         }
     }

@@ -4,15 +4,16 @@ use Rattle.text.specs.Digits.{digit, allDigits, number}
 use Rattle.text.specs.Order.{equal}
 use Rattle.text.specs.Range.{within}
 use Rattle.text.specs.Span.{cut}
-use Rattle.text.specs.Trim.{allWhite, before, through, keptOf, trimmed, trimOf}
-use Rattle.text.specs.Utf8.{isScalar, encode, bytes, tail, scalar, two, three, four, charOf, front, chars, allGood, utf8}
-use Rattle.text.specs.WhiteSpace.{inRanges, whiteSpaces, whiteSpace, blank, white}
+use Rattle.text.specs.Utf8.{encode, bytes}
+use Rattle.characters.specs.Trim.{allWhite, before, through, keptOf, trimmed, trimOf}
+use Rattle.characters.specs.Characters.{isScalar, tail, scalar, two, three, four, charOf, front, chars, allGood, utf8}
+use Rattle.characters.specs.WhiteSpace.{inRanges, whiteSpaces, whiteSpace, blank, white}
 use Rattle.amount.specs.Amount.{hundredths, inRange, amountOf, parsedAmount}
 use Rattle.amount.specs.Decimal.{negative, unsigned, digitsOf, pastDigits, pointed, pastPoint, whole, fraction, decimal, signed}
+use Rattle.date.specs.Date.{leap, days, isDay, year, month, day, eightDigits, dateOf, parsedDate}
 use Rattle.codes.specs.CodeList.{meaning}
 use Rattle.codes.specs.Rules.{bit, inForce}
 use Rattle.codes.specs.VatPoint.{vatPointDateCodes, vatPointDateCodeOf}
-use Rattle.date.specs.Date.{leap, days, isDay, year, month, day, eightDigits, dateOf, parsedDate}
 use Rattle.settlement.specs.Kinds.{sameKind, home, meant, kinds, kindNamed}
 use Rattle.settlement.specs.Values.{entry, trimIn, filled, textIn, ownText, textBytes, first, kid, kidText, attribute, missing, answered, requiredAmount, requiredCode, percent, notVat, amount, date}
 use Rattle.settlement.specs.Tax.{pointDate, freshCode, pointCode, tradeTaxOf}

@@ -6,9 +6,10 @@ use mathlib.Core.Option.{none, some}
 use Rattle.text.specs.Order.{equal}
 use Rattle.text.specs.Range.{within}
 use Rattle.text.specs.Span.{cut}
-use Rattle.text.specs.Trim.{allWhite, before, through, keptOf, trimmed, trimOf}
-use Rattle.text.specs.Utf8.{encode, bytes, tail, scalar, two, three, four, charOf, front, chars, allGood, utf8}
-use Rattle.text.specs.WhiteSpace.{inRanges, whiteSpaces, whiteSpace, white}
+use Rattle.text.specs.Utf8.{encode, bytes}
+use Rattle.characters.specs.Trim.{allWhite, before, through, keptOf, trimmed, trimOf}
+use Rattle.characters.specs.Characters.{tail, scalar, two, three, four, charOf, front, chars, allGood, utf8}
+use Rattle.characters.specs.WhiteSpace.{inRanges, whiteSpaces, whiteSpace, white}
 use Rattle.codes.specs.Rules.{bit, inForce}
 use Rattle.names.specs.declared.parent.Parent.the-variants as Parent
 use Rattle.report.specs.Rows.{transfer}

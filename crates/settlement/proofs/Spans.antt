@@ -11,11 +11,11 @@ use borrow.Author.Tests.{ltb-false, ne-eqb}
 use lib.Dec.{ltb, eqb}
 use lib.IntN.{pos}
 use lib.ListN.{length}
+use Rattle.text.proofs.Spans.{past}
 use Rattle.table.specs.Table.{records, cell, named, kids, attrs, firstOf}
 use Rattle.refusals.specs.Refusals.{beyond, outside, refusal}
 use Rattle.refusals.specs.Acceptance.{Accepted}
 use Rattle.refusals.proofs.Accepting.{accepted-is, neither}
-use Rattle.table.proofs.Records.{past}
 use Rattle.report.specs.Encoding.{tidy, placeStart, placeLength, textStart, textLength}
 use Rattle.report.specs.Rows.{Place}
 use Rattle.settlement.specs.Document.{Doc, maybe}

@@ -9,7 +9,8 @@ use Rattle.text.specs.Order.{equal}
 use Rattle.text.specs.Range.{within}
 use Rattle.text.specs.Span.{clipped}
 use Rattle.text.specs.Span.{cut as cutAt}
-use Rattle.text.specs.Utf8.{encode, bytes, tail, scalar, two, three, four, charOf, front, chars, allGood, utf8}
+use Rattle.text.specs.Utf8.{encode, bytes}
+use Rattle.characters.specs.Characters.{tail, scalar, two, three, four, charOf, front, chars, allGood, utf8}
 use Rattle.codes.specs.Rules.{bit, inForce}
 use Rattle.table.specs.Table.{nameOf, textOf, named, kin, below, kids, attrs, firstOf, firstFrom}
 use Rattle.refusals.specs.Refusals.{ragged, oversized, notRoot, misplaced, beyond, outside, notUtf8, notSettlement, recordRefusal, sizeRefusal, refusal}

@@ -7,17 +7,17 @@ use lib.Dec.{eqb}
 use lib.IntN.{ℤ, pos}
 use Rattle.text.specs.Answer.{Answer}
 use Rattle.text.specs.Order.{equal}
-use Rattle.text.specs.Trim.{trimmed, trimOf}
 use Rattle.text.specs.Utf8.{bytes}
+use Rattle.characters.specs.Trim.{trimmed, trimOf}
 use Rattle.amount.specs.Amount.{parsedAmount}
 use Rattle.amount.specs.Decimal.{empty}
 use Rattle.amount.specs.Percentage.{parsedPercentage}
+use Rattle.date.specs.Date.{parsedDate}
 use Rattle.codes.specs.Currency.{listed}
 use Rattle.codes.specs.DateFormat.{dateFormat}
 use Rattle.codes.specs.Rules.{inForce}
 use Rattle.codes.specs.Vat as Code
 use Rattle.codes.specs.declared.rules.Rule.{Rule}
-use Rattle.date.specs.Date.{parsedDate}
 use Rattle.names.specs.declared.message.Message.{Message}
 use Rattle.names.specs.declared.message.Message.the-variants as Message
 use Rattle.names.specs.declared.path.Path.{Path}

@@ -3,7 +3,3 @@ pub mod Ranges
 pub mod Digits
 pub mod Orders
 pub mod Spans
-pub mod Characters
-pub mod WhiteSpaces
-pub mod Trims
-pub mod Encoding

@@ -1,12 +1,20 @@
--- Laws of the bytes of a text at a start and a length.
+-- Laws of the bytes of a text at a place, or at a start and a length.
 use mathlib.Core.Path.{_≡_, sym, _∙_}
 use mathlib.Core.List.{List, []}
 use Prim.Native.Nat.{ℕ, _+_, _-_, _≤_, _<_}
 use native.Mathlib.Omega.{arith}
 use borrow.Author.Tests.{le-leb, lt-leb}
-use lib.ListN.{length, take, drop, length-drop, drop-of-length-le}
+use lib.ListN.{length, getD, take, drop, length-drop, drop-of-length-le, List·getD-eq-default}
 use lib.Seq.{take-all, take-nil}
 use Rattle.text.specs.Span.{partOf, clipped}
+
+-- the part `&s[i..]`, as a callee is handed it
+pub rest : (s : List ℕ) (i : ℕ) → take (length s - i) (drop i s) ≡ drop i s
+rest s i = take-all (length s - i) (drop i s) (omega (arith, length-drop i s))
+
+-- a byte past the end reads as 0
+pub past : (s : List ℕ) (i : ℕ) → length s ≤ i → 0 ≡ getD s i 0
+past s i h = sym (List·getD-eq-default s 0 h)
 
 module _ (s : List ℕ) (start len : ℕ) where
   pub part-far : length s < start → [] ≡ partOf s start len

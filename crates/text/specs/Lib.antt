@@ -3,7 +3,4 @@ pub mod Range
 pub mod Digits
 pub mod Span
 pub mod Utf8
-pub mod WhiteSpace
-pub mod Trim
-pub mod TrimWalk
 pub mod Order

@@ -1,4 +1,4 @@
-use Rattle.text.proofs.Characters.{past}
+use Rattle.text.proofs.Spans.{past}
 use borrow.Author.Needs.{needs}
 use Rattle.cases.proofs.byte_at.Statement.{statement}
 use Rattle.cases.proofs.byte_at.Tie as tie

@@ -1,5 +1,5 @@
+use Rattle.characters.proofs.Trims.{trimmed-in}
 use Rattle.edges.proofs.Parts.{places-of}
-use Rattle.text.proofs.Trims.{trimmed-in}
 use native.Mathlib.Omega.{arith}
 use borrow.Author.Needs.{needs}
 use Rattle.edges.proofs.answers.of_trim.Statement.{statement}

@@ -1,5 +1,5 @@
+use Rattle.text.proofs.Spans.{rest}
 use Rattle.edges.proofs.Parts.{tail-none}
-use Rattle.text.proofs.Characters.{rest}
 use borrow.Author.Needs.{needs}
 use Rattle.edges.proofs.answers.tail.Statement.{statement}
 use Rattle.edges.proofs.answers.tail.Tie as tie

@@ -3,8 +3,8 @@ use Prim.Native.Nat.{_-_}
 use native.Mathlib.Omega.{arith}
 use borrow.Author.Needs.{needs}
 use Rattle.table.specs.Table.{records, firstFrom}
-use Rattle.refusals.specs.Refusals.{misplaced}
 use Rattle.table.proofs.Scans.{scan-on, scan-hit, scan-end}
+use Rattle.refusals.specs.Refusals.{misplaced}
 use Rattle.refusals.proofs.refusal.first_misplaced.Statement.{statement}
 use Rattle.refusals.proofs.refusal.first_misplaced.Tie as tie
 

@@ -3,8 +3,8 @@ use Prim.Native.Nat.{_-_}
 use native.Mathlib.Omega.{arith}
 use borrow.Author.Needs.{needs}
 use Rattle.table.specs.Table.{records, firstFrom}
-use Rattle.refusals.specs.Refusals.{outside}
 use Rattle.table.proofs.Scans.{scan-on, scan-hit, scan-end}
+use Rattle.refusals.specs.Refusals.{outside}
 use Rattle.refusals.proofs.refusal.first_outside.Statement.{statement}
 use Rattle.refusals.proofs.refusal.first_outside.Tie as tie
 

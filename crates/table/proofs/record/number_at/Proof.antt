@@ -1,4 +1,4 @@
-use Rattle.table.proofs.Records.{past}
+use Rattle.text.proofs.Spans.{past}
 use borrow.Author.Needs.{needs}
 use Rattle.table.proofs.record.number_at.Statement.{statement}
 use Rattle.table.proofs.record.number_at.Tie as tie

@@ -1,0 +1,4 @@
+pub mod Characters
+pub mod WhiteSpaces
+pub mod Trims
+pub mod Encoding

@@ -1,0 +1,4 @@
+pub mod Characters
+pub mod WhiteSpace
+pub mod Trim
+pub mod TrimWalk
