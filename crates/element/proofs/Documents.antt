@@ -15,10 +15,11 @@ use Rattle.characters.specs.Trim.{trimmed, trimOf}
 use Rattle.characters.proofs.Trims.{trimmed-in}
 use Rattle.amount.specs.Decimal.{empty}
 use Rattle.table.specs.Table.{cell, nameOf, textOf, named, found, firstOf}
-use Rattle.links.specs.Links.{linked}
+use Rattle.links.specs.Links.{linked, roomy, linkAll, Blank}
+use Rattle.links.proofs.Linking.{linked-kids, linked-attrs}
 use Rattle.report.specs.Rows.{Place}
 use Rattle.settlement.specs.Document.{Doc, maybe}
-use Rattle.settlement.specs.TableDoc.{textAt, ownTextAt, shows}
+use Rattle.settlement.specs.TableDoc.{textAt, ownTextAt, shows, tableDoc}
 use Rattle.settlement.specs.Values.{trimIn, filled, textIn, textBytes, first, kid, attribute}
 use Rattle.element.specs.LinkDoc.{linkDoc}
 use Rattle.element.specs.Trimmed.{trimmedAt}
@@ -161,3 +162,8 @@ module _ (t : List ℕ) (r : ℕ) where
   pub raw-some : {a n : ℕ} → n ≡ cell t r 5 → (n ≡ 0 → ⊥) → a ≡ cell t r 4 → some (record { start = a + 0; len = n }) ≡ ownTextAt t r
   unfolding ownTextAt
   raw-some {a} {n} e z f = ap some (place-is f e) ∙ rw (rw e at (ne-eqb n 0 z))
+
+-- the links that all records of a table make of a blank array with room: the document is the table's own
+pub linked-doc : (t x l : List ℕ) → roomy t l ≡ true → Blank l → linkDoc t x (linkAll t l) ≡ tableDoc t x
+unfolding tableDoc
+linked-doc t x l r z = rw (linked-kids t l r z, linked-attrs t l r z)

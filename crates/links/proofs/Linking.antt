@@ -192,6 +192,29 @@ module _ (t l : List ℕ) (r : roomy t l ≡ true) (z : Blank l) where
   unfolding attrs
   linked-attrs = fun-ext (linked-all t 1 (omega arith) l r z)
 
+-- linking keeps the array's length
+module _ (t : List ℕ) where
+  one-length : (j : ℕ) (l : List ℕ) → length (linkOne t j l) ≡ length l
+  unfolding linkOne inFront
+  one-length j l = go (joins (cell t j 0) (cell t j 1) j)
+    where
+      go : (b : Bool) → length (cond b (inFront l (cell t j 0 - 1) (cell t j 1) j) l) ≡ length l
+      go true = length-set (set l (j * 3 + 2) (link l (cell t j 1) (cell t j 0 - 1))) (cell t j 1 * 3 + (cell t j 0 - 1)) j ∙ length-set l (j * 3 + 2) (link l (cell t j 1) (cell t j 0 - 1))
+      go false = refl
+
+  below-length : (j : ℕ) (l : List ℕ) → length (linkBelow t j l) ≡ length l
+  unfolding linkBelow
+  below-length zero l = refl
+  below-length (suc j) l = below-length j (linkOne t j l) ∙ one-length j l
+
+  pub link-length : (l : List ℕ) → length (linkAll t l) ≡ length l
+  unfolding linkAll
+  link-length l = go (roomy t l)
+    where
+      go : (b : Bool) → length (cond b (linkBelow t (records t) l) l) ≡ length l
+      go true = below-length (records t) l
+      go false = refl
+
 -- room, in numbers
 pub roomy-is : (t l : List ℕ) → records t * 3 ≤ length l → records t ≤ 65536 → roomy t l ≡ true
 unfolding roomy

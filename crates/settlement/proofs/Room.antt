@@ -100,12 +100,16 @@ module _ {N X : Type 0} (L : Lent) (D : Doc N X) where
   unfolding readingOf
   held-most cs = said-total (step L D) (holdsOf L D) (weight L D) (holds-weight L D) (blank X) cs
 
+  -- a name that is not mapped for each
+  strays-most : (cs : List N) → length (said (step L D) (straysOf L D) (blank X) cs) ≤ total (weight L D) cs
+  strays-most cs = said-total (step L D) (straysOf L D) (weight L D) (strays-weight L D) (blank X) cs
+
   -- an unmapped name for each
   unmapped-most : (cs : List N) → length (readingOf L D cs .unmapped) ≤ total (weight L D) cs
   unfolding readingOf
   unmapped-most cs =
       le-trans (insertAll-most (unmappedOrder D) [] (said (step L D) (straysOf L D) (blank X) cs))
-      (omega (arith, said-total (step L D) (straysOf L D) (weight L D) (strays-weight L D) (blank X) cs))
+      (omega (arith, strays-most cs))
 
 module _ (L : Lent) (t x : List ℕ) where
   -- a table with a record pays for its reading: a held row, four entries and an unmapped name for each record
@@ -118,6 +122,11 @@ module _ (L : Lent) (t x : List ℕ) where
         entries = omega (arith, sizes t h, entries-most L (tableDoc t x) cs);
         unmapped = omega (arith, sizes t h, unmapped-most L (tableDoc t x) cs);
       }
+
+  -- names that are not mapped, met again or not, are no more than the records
+  pub strays-within : 0 < records t → length (said (step L (tableDoc t x)) (straysOf L (tableDoc t x)) (blank Place) (kids t 0)) ≤ records t
+  unfolding tableDoc
+  strays-within h = omega (arith, sizes t h, strays-most L (tableDoc t x) (kids t 0))
 
 -- so does the table of an outcome that is a reading
 pub outcome-within : (L : Lent) (m : Room) (t x : List ℕ) (r : Reading Place) → outcome L m t x ≡ read r → Within t r

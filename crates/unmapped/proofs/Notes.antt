@@ -16,13 +16,13 @@ use Rattle.settlement.specs.Document.{Doc}
 use Rattle.settlement.specs.Settlement.{unmappedKey, unmappedOrder}
 use Rattle.settlement.specs.Sorted.{Ascending}
 use Rattle.settlement.specs.TableDoc.{shows, tableDoc}
-use Rattle.settlement.specs.Walk.{placed, insert}
+use Rattle.settlement.specs.Walk.{placed, insert, insertAll}
 use Rattle.settlement.proofs.UnmappedSet.{insert-ascending}
 use Rattle.element.specs.LinkDoc.{linkDoc}
 use Rattle.unmapped.specs.declared.search.Spot.{Spot}
 use Rattle.unmapped.specs.Row.{elementKey, elementOrder, standing}
 use Rattle.unmapped.specs.Search.{sought}
-use Rattle.unmapped.specs.Noting.{Rows, inserted, atSpot, noting, Noted}
+use Rattle.unmapped.specs.Noting.{Rows, inserted, atSpot, noting, notings, Noted}
 use Rattle.unmapped.specs.Listed.{Listed}
 use Rattle.unmapped.proofs.Places.{Met, taken, free, halve-met, insert-taken, insert-free, ascending-before}
 use Rattle.unmapped.proofs.RowsBack.{back-key, back-inserted}
@@ -139,3 +139,11 @@ module _ {x : List ℕ} {lent now : List ℤ} {us : List (Unmapped Place)} {n : 
   -- the same of what `note_unmapped` ensures
   pub noted-by : {now′ : List ℤ} {n′ : ℕ} → Noted (noting x now n u) now′ n′ → Listed x lent (insert (elementOrder x) u us) now′ n′
   noted-by w = record { rows = w .list ∙ noted .rows; count = w .count ∙ noted .count; sorted = noted .sorted; room = noted .room }
+
+-- elements that are noted one after the other, with room for them all
+pub noted-all :
+    {x : List ℕ} {lent now now′ : List ℤ} {us : List (Unmapped Place)} {n n′ : ℕ} (vs : List (Unmapped Place)) → Listed x lent us now n → (length us + length vs) * 3 ≤ length lent → Noted (notings x now n vs) now′ n′ →
+    Listed x lent (insertAll (elementOrder x) us vs) now′ n′
+unfolding notings insertAll
+noted-all [] l room w = record { rows = w .list ∙ l .rows; count = w .count ∙ l .count; sorted = l .sorted; room = l .room }
+noted-all {x} {lent} {now} {now′} {us} (v ∷ vs) l room w = noted-all vs (noted v l (omega arith)) (omega (arith, insert-length (elementOrder x) v us)) w
