@@ -1,6 +1,6 @@
 -- A reading has room: what the records pay for, so that the three lent lists hold every row of an accepted call.
 use mathlib.Core.Path.{_≡_}
-use mathlib.Core.Bool.{_||_}
+use mathlib.Core.Bool.{false, _||_}
 use mathlib.Core.List.{List, [], _∷_, foldl}
 use mathlib.Core.Option.{Option, none, some}
 use Prim.Native.Nat.{ℕ, _+_, _*_, _≤_, _<_, Ordering, Ordering·lt, Ordering·eq, Ordering·gt}
@@ -10,6 +10,7 @@ use borrow.Author.Tests.{ltb-false}
 use lib.Dec.{ltb}
 use lib.ListN.{length, length-append}
 use Rattle.table.specs.Table.{records, kids}
+use Rattle.refusals.specs.Refusals.{refusal}
 use Rattle.refusals.proofs.Accepting.{accepted-is, neither}
 use Rattle.report.specs.Encoding.{heldWidth, entryWidth, unmappedWidth}
 use Rattle.report.specs.Rows.{Place}
@@ -132,16 +133,26 @@ module _ (L : Lent) (t x : List ℕ) where
 pub outcome-within : (L : Lent) (m : Room) (t x : List ℕ) (r : Reading Place) → outcome L m t x ≡ read r → Within t r
 outcome-within L m t x r e = rw (outcome-read L m t x r e) (reading-within L t x (accepted-is t x (accepted L m t x r e) .some-records))
 
--- whose rows fit into the three lent lists
-pub outcome-fits : (L : Lent) (m : Room) (t x : List ℕ) (r : Reading Place) → outcome L m t x ≡ read r → Fits m r
+-- the room that refusal 10 asks for, in numbers
+has-numbers : (m : Room) (t : List ℕ) → cramped m t ≡ false → (heldWidth * records t ≤ m .held) × (4 * entryWidth * records t ≤ m .entries) × (unmappedWidth * records t ≤ m .unmapped)
 unfolding cramped
-outcome-fits L m t x r e =
-    let w = outcome-within L m t x r e in
+has-numbers m t r =
     let n = records t in
-    let c = neither (ltb (m .held) (heldWidth * n)) (ltb (m .entries) (4 * entryWidth * n) || ltb (m .unmapped) (unmappedWidth * n)) (has-room L m t x r e) in
+    let c = neither (ltb (m .held) (heldWidth * n)) (ltb (m .entries) (4 * entryWidth * n) || ltb (m .unmapped) (unmappedWidth * n)) r in
     let d = neither (ltb (m .entries) (4 * entryWidth * n)) (ltb (m .unmapped) (unmappedWidth * n)) (c .1) in
-    record {
-      held = omega (arith, ltb-false (m .held) (heldWidth * n) (c .0), w .held);
-      entries = omega (arith, ltb-false (m .entries) (4 * entryWidth * n) (d .0), w .entries);
-      unmapped = omega (arith, ltb-false (m .unmapped) (unmappedWidth * n) (d .1), w .unmapped);
-    }
+    (ltb-false (m .held) (heldWidth * n) (c .0), ltb-false (m .entries) (4 * entryWidth * n) (d .0), ltb-false (m .unmapped) (unmappedWidth * n) (d .1))
+
+-- where a table is accepted and the lists have the room that refusal 10 asks for, all rows fit into them
+pub reading-fits : (L : Lent) (m : Room) (t x : List ℕ) → refusal t x ≡ none → cramped m t ≡ false → Fits m (reading L (tableDoc t x) 0)
+reading-fits L m t x a r =
+    let w = reading-within L t x (accepted-is t x a .some-records) in
+    let n = has-numbers m t r in
+    record { held = omega (arith, n .0, w .held); entries = omega (arith, n .1, w .entries); unmapped = omega (arith, n .2, w .unmapped) }
+
+-- so they do for every outcome that is a reading
+pub outcome-fits : (L : Lent) (m : Room) (t x : List ℕ) (r : Reading Place) → outcome L m t x ≡ read r → Fits m r
+outcome-fits L m t x r e = rw (outcome-read L m t x r e) (reading-fits L m t x (accepted L m t x r e) (has-room L m t x r e))
+
+-- names that are not mapped fit, too, met again or not
+pub strays-fit : (L : Lent) (m : Room) (t x : List ℕ) → refusal t x ≡ none → cramped m t ≡ false → length (said (step L (tableDoc t x)) (straysOf L (tableDoc t x)) (blank Place) (kids t 0)) * unmappedWidth ≤ m .unmapped
+strays-fit L m t x a r = omega (arith, has-numbers m t r .2, strays-within L t x (accepted-is t x a .some-records))
