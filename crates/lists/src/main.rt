@@ -1,5 +1,5 @@
 // Prints docs/PATHS.md, docs/TERMS.md and docs/MESSAGES.md one after the other, with the numbers and
-// texts of the crate `names`.
+// texts of the crates `names` and `labels`.
 mod messages;
 mod output;
 mod paths;

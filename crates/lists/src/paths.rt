@@ -18,7 +18,7 @@ fn print_rows() {
     let mut space = io::buffer();
     let mut number: u32 = 1;
     while number < LIMIT {
-        let n = names::put_path_text(&mut space, 0, number as usize);
+        let n = labels::put_path_text(&mut space, 0, number as usize);
         if n == 0 {
             return;
         }

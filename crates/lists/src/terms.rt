@@ -10,7 +10,7 @@ const LIMIT: u32 = 1000;
 // Prints the group of a term, with an index unless it is BG-22, which is there once.
 fn print_group(number: u32) {
     let mut space = io::buffer();
-    let n = names::put_group_name(&mut space, 0, number as usize);
+    let n = labels::put_group_name(&mut space, 0, number as usize);
     if n == 0 {
         return;
     }
@@ -34,7 +34,7 @@ fn print_rows() {
     let mut space = io::buffer();
     let mut number: u32 = 1;
     while number < LIMIT {
-        let n = names::put_term_name(&mut space, 0, number as usize);
+        let n = labels::put_term_name(&mut space, 0, number as usize);
         if n == 0 {
             return;
         }

@@ -1,4 +1,2 @@
 pub mod Puts
-pub mod Lines
 pub mod Numbers
-pub mod Texts

@@ -1,10 +1,7 @@
--- Laws of the numbers of messages, paths, terms and parents: each finds its own again, so that no two have the same, and has its own text.
+-- Laws of the numbers of messages, paths, terms and parents: each finds its own again, so that no two have the same.
 use mathlib.Core.Path.{_≡_, refl, sym, _∙_, ap}
-use mathlib.Core.List.{List, []}
-use mathlib.Core.Option.{Option, none, some, Option·elim}
-use Prim.Native.String.{String}
+use mathlib.Core.Option.{Option, none, some}
 use Prim.Native.Nat.{ℕ}
-use Rattle.text.specs.Utf8.{bytes}
 use Rattle.names.specs.declared.message.Message.{Message}
 use Rattle.names.specs.declared.message.Message.the-variants as Message
 use Rattle.names.specs.declared.path.Path.{Path}
@@ -13,11 +10,11 @@ use Rattle.names.specs.declared.term.Term.{Term}
 use Rattle.names.specs.declared.term.Term.the-variants as Term
 use Rattle.names.specs.declared.parent.Parent.{Parent}
 use Rattle.names.specs.declared.parent.Parent.the-variants as Parent
-use Rattle.names.specs.Numbered.{nth, textAt}
+use Rattle.names.specs.Numbered.{nth}
 use Rattle.names.specs.Message.{messageNumber, messages}
-use Rattle.names.specs.Path.{pathNumber, paths, pathText, pathTextAt}
-use Rattle.names.specs.Term.{termNumber, terms, termGroup, termGroupAt, termName, termNameAt}
-use Rattle.names.specs.Parent.{parentNumber, parents, parentName, parentNameAt}
+use Rattle.names.specs.Path.{pathNumber, paths}
+use Rattle.names.specs.Term.{termNumber, terms}
+use Rattle.names.specs.Parent.{parentNumber, parents}
 
 -- a number, at the case that was met
 pub message-case : {a x : Message} {n : ℕ} → a ≡ x → n ≡ messageNumber x → n ≡ messageNumber a
@@ -167,34 +164,3 @@ pub parent-same : (a b : Parent) → parentNumber a ≡ parentNumber b → a ≡
 parent-same a b e =
     let q : some a ≡ some b = sym (parent-found a) ∙ ap (nth parents) e ∙ parent-found b in
     cc
-
--- the text of a number is its own's
-module _ {A : Type 0} (f : A → String) (l : List A) (n : ℕ) where
-  text-found : (x : A) → nth l n ≡ some x → textAt f l n ≡ bytes (f x)
-  unfolding textAt Option·elim
-  text-found x e = rw e
-
-pub path-text : (x : Path) → pathTextAt (pathNumber x) ≡ bytes (pathText x)
-unfolding pathTextAt
-path-text x = text-found pathText paths (pathNumber x) x (path-found x)
-
-pub parent-name : (x : Parent) → parentNameAt (parentNumber x) ≡ bytes (parentName x)
-unfolding parentNameAt
-parent-name x = text-found parentName parents (parentNumber x) x (parent-found x)
-
-module _ (f : Term → String) (h : f Term.None ≡ "") where
-  term-text : (t : Term) → textAt f terms (termNumber t) ≡ bytes (f t)
-  unfolding textAt Option·elim bytes
-  term-text t = go (nth terms (termNumber t)) ∙ ap (λ (x : Term). bytes (f x)) (term-found t)
-    where
-      go : (o : Option Term) → Option·elim o [] (λ x. bytes (f x)) ≡ bytes (f (orNone o))
-      go none = rw h
-      go (some x) = refl
-
-pub term-group : (t : Term) → termGroupAt (termNumber t) ≡ bytes (termGroup t)
-unfolding termGroupAt
-term-group t = term-text termGroup refl t
-
-pub term-name : (t : Term) → termNameAt (termNumber t) ≡ bytes (termName t)
-unfolding termNameAt
-term-name t = term-text termName refl t

@@ -7,7 +7,7 @@ use native.Mathlib.Numerals.{add-one}
 use native.Mathlib.Omega.{arith}
 use lib.ListN.{length, getD, take, drop, set, length-set}
 use lib.Seq.{length-sets, sets-eq, take-suc, length-take-le, take-all, set-comm, set-set, set-out, getD-set-same, getD-set-other}
-use Rattle.names.specs.Put.{put, Wrote}
+use Rattle.names.specs.Put.{put}
 
 module _ {A : Type 0} where
   pub put-none : (l : List A) (at : ℕ) → put l at [] ≡ l
@@ -91,6 +91,3 @@ module _ {A : Type 0} (l : List A) (at i : ℕ) (v : A) where
 
   pub set-past : at < length l → length l - at ≤ i → l ≡ set l (at + i) v
   set-past h k = sym (set-out l (at + i) v (omega arith))
-
-pub wrote : (l : List ℕ) (at : ℕ) (t : List ℕ) {m : List ℕ} {i : ℕ} → i ≤ length t → length t ≤ i → m ≡ put l at (take i t) → Wrote l at t m i
-wrote l at t {m} {i} h h′ e = record { now = put-end l at t h′ e; size = omega arith }

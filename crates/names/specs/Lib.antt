@@ -1,5 +1,4 @@
 pub mod Put
-pub mod Line
 pub mod Numbered
 pub mod Message
 pub mod Path

@@ -1,10 +1,8 @@
 -- The parents of unmapped elements: element names of CII D16B (document 01, "Rows": Unmapped).
 use mathlib.Core.List.{List, [], _∷_}
-use Prim.Native.String.{String}
 use Prim.Native.Nat.{ℕ}
 use Rattle.names.specs.declared.parent.Parent.{Parent}
 use Rattle.names.specs.declared.parent.Parent.the-variants as Parent
-use Rattle.names.specs.Numbered.{textAt}
 
 -- 1 settlement, 2 monetary summation, 3 payment means
 abbrev pub parentNumber : Parent → ℕ
@@ -19,13 +17,3 @@ parents =
     Parent.MonetarySummation ∷
     Parent.PaymentMeans ∷
     []
-
--- the element's name
-abbrev pub parentName : Parent → String
-parentName Parent.Settlement = "ApplicableHeaderTradeSettlement"
-parentName Parent.MonetarySummation = "SpecifiedTradeSettlementHeaderMonetarySummation"
-parentName Parent.PaymentMeans = "SpecifiedTradeSettlementPaymentMeans"
-
--- the same by its number, nothing where no parent has it
-unfoldable pub parentNameAt : ℕ → List ℕ
-parentNameAt n = textAt parentName parents n

@@ -1,9 +1,9 @@
-// The vocabulary of entries: numbered messages, paths, terms and parents, with their texts.
+// The vocabulary of entries and unmapped rows: messages, paths, terms and parents, each with its
+// number. Their texts are in crate `labels`.
 //
-// Every function takes all numbers and lists of any length: what has no room is left out. No public
-// function has a `requires`, and the crate assumes nothing of its own.
-mod line;
-mod list;
+// `specs/Put.antt` and its laws, of numbers put into a lent list, stand here for the crates above.
+//
+// No public function has a `requires`, and the crate assumes nothing of its own.
 mod message;
 mod parent;
 mod path;
@@ -11,9 +11,5 @@ mod term;
 
 pub use message::Message;
 pub use parent::Parent;
-pub use parent::put_parent_name;
 pub use path::Path;
-pub use path::put_path_text;
 pub use term::Term;
-pub use term::put_group_name;
-pub use term::put_term_name;

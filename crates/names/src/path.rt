@@ -1,9 +1,7 @@
 // The paths of entries: where in the settlement an entry's element stands. Names above the settlement
 // are cut, so a full path starts at record 0.
 ghost use mathlib.Core.Path.{_≡_};
-ghost use Rattle.names.specs.Path.{pathNumber, pathTextAt};
-ghost use Rattle.names.specs.Put.{Wrote};
-use crate::line::put_line;
+ghost use Rattle.names.specs.Path.{pathNumber};
 
 // Every path that an entry can have, in the order in which the reader meets them.
 pub enum Path {
@@ -111,62 +109,4 @@ impl Path {
             Path::SettlementCreditorReference => 47,
         }
     }
-}
-
-// The paths as the Rust prints them, a line for each number from 0, which none has.
-const TEXTS: [u8; 2586] = *b"
-SpecifiedTradeSettlementPaymentMeans/ApplicableTradeSettlementFinancialCard
-SpecifiedTradeSettlementPaymentMeans/PayerPartyDebtorFinancialAccount
-SpecifiedTradeSettlementPaymentMeans/PayeePartyCreditorFinancialAccount
-SpecifiedTradeSettlementPaymentMeans/PayeeSpecifiedCreditorFinancialInstitution
-ApplicableTradeTax/TaxPointDate/DateTimeString
-ApplicableTradeTax/TaxPointDate/DateString
-ApplicableTradeTax/DueDateTypeCode
-ApplicableHeaderTradeSettlement/ApplicableTradeTax/DueDateTypeCode
-ApplicableHeaderTradeSettlement/ApplicableTradeTax
-ApplicableTradeTax/BasisAmount
-ApplicableTradeTax/CalculatedAmount
-ApplicableTradeTax/TypeCode
-ApplicableTradeTax/RateApplicablePercent
-BillingSpecifiedPeriod/StartDateTime/DateTimeString
-BillingSpecifiedPeriod/StartDateTime/DateString
-BillingSpecifiedPeriod/EndDateTime/DateTimeString
-BillingSpecifiedPeriod/EndDateTime/DateString
-SpecifiedTradeAllowanceCharge/ChargeIndicator/Indicator
-CategoryTradeTax/TypeCode
-ApplicableHeaderTradeSettlement/SpecifiedTradeAllowanceCharge/CategoryTradeTax
-CategoryTradeTax/RateApplicablePercent
-ApplicableHeaderTradeSettlement/SpecifiedTradeAllowanceCharge
-SpecifiedTradeAllowanceCharge/ActualAmount
-SpecifiedTradeAllowanceCharge/BasisAmount
-SpecifiedTradeAllowanceCharge/CalculationPercent
-AppliedTradeTax/TypeCode
-ApplicableHeaderTradeSettlement/SpecifiedLogisticsServiceCharge/AppliedTradeTax
-AppliedTradeTax/RateApplicablePercent
-ApplicableHeaderTradeSettlement/SpecifiedLogisticsServiceCharge
-SpecifiedLogisticsServiceCharge/AppliedAmount
-SpecifiedTradePaymentTerms/DueDateDateTime/DateTimeString
-SpecifiedTradePaymentTerms/DueDateDateTime/DateString
-SpecifiedTradeSettlementHeaderMonetarySummation/ChargeTotalAmount
-SpecifiedTradeSettlementHeaderMonetarySummation/AllowanceTotalAmount
-SpecifiedTradeSettlementHeaderMonetarySummation/TaxTotalAmount
-SpecifiedTradeSettlementHeaderMonetarySummation/RoundingAmount
-SpecifiedTradeSettlementHeaderMonetarySummation/TotalPrepaidAmount
-ApplicableHeaderTradeSettlement/SpecifiedTradeSettlementHeaderMonetarySummation
-SpecifiedTradeSettlementHeaderMonetarySummation/LineTotalAmount
-SpecifiedTradeSettlementHeaderMonetarySummation/TaxBasisTotalAmount
-SpecifiedTradeSettlementHeaderMonetarySummation/GrandTotalAmount
-SpecifiedTradeSettlementHeaderMonetarySummation/DuePayableAmount
-ApplicableHeaderTradeSettlement/InvoiceReferencedDocument
-InvoiceReferencedDocument/FormattedIssueDateTime/DateTimeString
-InvoiceReferencedDocument/FormattedIssueDateTime/DateString
-SpecifiedTradePaymentTerms/DirectDebitMandateID
-ApplicableHeaderTradeSettlement/CreditorReferenceID";
-
-// Puts the text of the path that has a number into out at a place, as far as there is room, and answers
-// its length.
-pub fn put_path_text(out: &mut [u8], at: usize, number: usize) -> usize
-    ensures { λ r. ⌜ Wrote (now (out .entry)) at (pathTextAt number) (now (out .exit)) r ⌝ }
-{
-    put_line(out, at, &TEXTS, number)
 }

@@ -1,0 +1,4 @@
+pub mod Written
+pub mod Lines
+pub mod Texts
+pub mod OwnTexts
