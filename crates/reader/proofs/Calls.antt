@@ -223,6 +223,8 @@ module _ (L : Lent) (c d : Call) (p : Promised L c) (q : Promised L d) (e : c .a
   calls-same h =
       let a = same-settlement L _ _ (c .table) (c .text) (d .table) (d .text) _ _ (call-read L c p e) (call-read L d q f) h in
       record {
+        left = e;
+        right = f;
         terms = terms-are L c p e ∙ ap (λ (r : Reading (List ℕ)). r .terms) a ∙ sym (terms-are L d q f);
         held = held-are L c p e ∙ ap (λ (r : Reading (List ℕ)). map heldCells (r .held)) a ∙ sym (held-are L d q f);
         unmapped = unmapped-are L c p e ∙ ap (λ (r : Reading (List ℕ)). map unmappedCells (r .unmapped)) a ∙ sym (unmapped-are L d q f);
@@ -234,6 +236,8 @@ module _ (L : Lent) (c d : Call) (p : Promised L c) (q : Promised L d) (e : c .a
   calls-order-free h =
       let a = order-free L _ _ (c .table) (c .text) (d .table) (d .text) _ _ (call-read L c p e) (call-read L d q f) h in
       record {
+        left = e;
+        right = f;
         terms = terms-are L c p e ∙ a .terms ∙ sym (terms-are L d q f);
         held = λ j. kind-are L c p e j ∙ ap (map heldCells) (a .held j) ∙ sym (kind-are L d q f j);
         unmapped = unmapped-are L c p e ∙ ap (map unmappedCells) (a .unmapped) ∙ sym (unmapped-are L d q f);

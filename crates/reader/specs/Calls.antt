@@ -33,7 +33,7 @@ pub data Cell : Type 0 where
   absent : Cell
   bytes : List ℕ → Cell
 
--- absent text is -1, 0; any other has the bytes from its start on
+-- absent text is -1, 0, and so is any with a number below 0; any other shows its bytes
 unfoldable pub textCell : List ℕ → ℤ → ℤ → Cell
 textCell x (pos s) (pos n) = bytes (clipped x s n)
 textCell x (pos s) (negsuc n) = absent
@@ -98,7 +98,7 @@ pub record Call : Type 0 where
   pub entries′ : List ℤ
   pub unmapped′ : List ℤ
 
--- it did what `read` promises, lent mode, rules number, currency and identifier
+-- it did what `read` promises, the lists at entry being any
 abbrev pub Promised : Lent → Call → Type 0
 Promised L c = Answered (outcome L (roomOf (c .held) (c .entries) (c .unmapped)) (c .table) (c .text)) (c .answer) (c .held) (c .held′) (c .entries) (c .entries′) (c .unmapped) (c .unmapped′)
 
@@ -126,15 +126,19 @@ shownEntries c = map (shownRow entryColumns (c .text)) (cutRows entryWidth (c .a
 unfoldable pub shownUnmapped : Call → List (List Cell)
 shownUnmapped c = map (shownRow unmappedColumns (c .text)) (cutRows unmappedWidth (c .answer .unmapped) (c .unmapped′))
 
--- the numbers of two calls show the same but for the order of rows: terms, held rows of each kind and unmapped names in order, entries in any
+-- both were read, and their numbers show the same but for the order of rows: terms, held rows of each kind and unmapped names in order, entries in any
 pub record AlikeCalls (c d : Call) : Type 0 where
+  pub left : c .answer .refusal ≡ 0
+  pub right : d .answer .refusal ≡ 0
   pub terms : shownTerms c ≡ shownTerms d
   pub held : (j : ℕ) → shownOfKind j c ≡ shownOfKind j d
   pub unmapped : shownUnmapped c ≡ shownUnmapped d
   pub entries : Perm (shownEntries c) (shownEntries d)
 
--- they show the same, in the same order
+-- both were read, and their numbers show the same in the same order
 pub record SameCalls (c d : Call) : Type 0 where
+  pub left : c .answer .refusal ≡ 0
+  pub right : d .answer .refusal ≡ 0
   pub terms : shownTerms c ≡ shownTerms d
   pub held : shownHeld c ≡ shownHeld d
   pub unmapped : shownUnmapped c ≡ shownUnmapped d
