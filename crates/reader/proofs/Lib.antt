@@ -1,3 +1,4 @@
 pub mod Ends
 pub mod Rooms
 pub mod Settling
+pub mod Calls

@@ -1,3 +1,4 @@
 pub mod Answers
 pub mod Endings
 pub mod Answered
+pub mod Calls

@@ -1,0 +1,245 @@
+-- Demand 3 at the calls: two calls that read, lent any lists, whose tables describe the same settlement except for an exchange, leave numbers that show the same but for the order of rows.
+use mathlib.Core.Path.{_≡_, refl, sym, ap, _∙_}
+use mathlib.Core.Bool.{Bool, true, false, cond, true≢false}
+use mathlib.Core.List.{List, [], _∷_, _++_, append-assoc, map, Perm·map}
+use mathlib.Core.Option.{Option, none, some, Option·map}
+use Prim.Native.Nat.{ℕ, suc}
+use borrow.Author.Tests.{eqb-true}
+use lib.Dec.{eqb, ltb}
+use lib.IntN.{ℤ, pos}
+use lib.ListN.{length, take, drop, replicate}
+use lib.Seq.{take-at, drop-at}
+use Rattle.text.specs.Span.{clipped}
+use Rattle.names.specs.Message.{messageNumber}
+use Rattle.names.specs.Path.{pathNumber}
+use Rattle.names.specs.Term.{termNumber}
+use Rattle.names.specs.Parent.{parentNumber}
+use Rattle.refusals.specs.Refusals.{refuse, recordRefusal, sizeRefusal, refusal}
+use Rattle.report.specs.Rows.{Place, Entry, AllowanceCharge, Held, transfer, vat, allowance, charge, preceding, Unmapped, mapEntry, mapTransfer, mapVat, mapAllowanceCharge, mapPreceding, mapHeld, mapUnmapped}
+use Rattle.report.specs.Encoding.{heldWidth, entryWidth, unmappedWidth, tidy, placeStart, placeLength, textStart, textLength, unscaled, scale, present, hundredths, orAbsent, heldRow, entryRow, unmappedRow, rowsOf}
+use Rattle.report.proofs.Widths.{held-width, entry-width, unmapped-width}
+use Rattle.settlement.specs.Shapes.{Reading}
+use Rattle.settlement.specs.Values.{Lent}
+use Rattle.settlement.specs.Settlement.{reading}
+use Rattle.settlement.specs.Document.{orElse}
+use Rattle.settlement.specs.Summation.{isNone}
+use Rattle.settlement.specs.TableDoc.{shows, tableDoc}
+use Rattle.settlement.specs.Tree.{treeDoc, treeOf}
+use Rattle.settlement.specs.Shown.{mapReading}
+use Rattle.settlement.specs.Outcome.{Room, Outcome, read, callRefusal, unless, outcome, shown}
+use Rattle.settlement.specs.Result.{Result, resultOf}
+use Rattle.settlement.specs.Alike.{rowKind, keep, ofKind}
+use Rattle.settlement.specs.Exchange.{Exchanged}
+use Rattle.settlement.proofs.AnyOrder.{same-settlement, order-free}
+use Rattle.reader.specs.Answered.{roomOf, rowsThen}
+use Rattle.reader.specs.Calls.{cutRows, Cell, number, absent, bytes, textCell, shownRow, entryColumns, unmappedColumns, kindOf, shownHeldRow, Call, Promised, shownTerms, heldIn, shownHeld, shownOfKind, shownEntries, shownUnmapped, AlikeCalls, SameCalls}
+
+-- a refusal's number is not 0
+unfoldable numbered : Option (ℕ × ℕ) → Bool
+numbered none = true
+numbered (some n) = ltb 0 (n .0)
+
+none-numbered : numbered none ≡ true
+unfolding numbered
+none-numbered = refl
+
+refuse-numbered : (k : ℕ) (o : Option ℕ) (next : Option (ℕ × ℕ)) → numbered (refuse k o next) ≡ cond (isNone o) (numbered next) (ltb 0 k)
+unfolding numbered
+refuse-numbered k none next = refl
+refuse-numbered k (some r) next = refl
+
+either-numbered : (o p : Option (ℕ × ℕ)) → numbered (orElse o p) ≡ cond (isNone o) (numbered p) (numbered o)
+either-numbered none p = refl
+either-numbered (some n) p = refl
+
+either-way : (b : Bool) → cond b true true ≡ true
+either-way true = refl
+either-way false = refl
+
+-- as for all ten
+call-numbered : (L : Lent) (m : Room) (t x : List ℕ) → numbered (callRefusal L m t x) ≡ true
+unfolding callRefusal refusal sizeRefusal recordRefusal
+call-numbered L m t x = simp (refuse-numbered, either-numbered, none-numbered, either-way)
+
+-- so an outcome of number 0 is a reading
+outcome-zero : (L : Lent) (m : Room) (t x : List ℕ) → resultOf (outcome L m t x) .number ≡ 0 → outcome L m t x ≡ read (reading L (tableDoc t x) 0)
+unfolding outcome resultOf numbered
+outcome-zero L m t x e = go (callRefusal L m t x) (call-numbered L m t x) e
+  where
+    go : (o : Option (ℕ × ℕ)) → numbered o ≡ true → resultOf (unless o (reading L (tableDoc t x) 0)) .number ≡ 0 → unless o (reading L (tableDoc t x) 0) ≡ read (reading L (tableDoc t x) 0)
+    go none h e = refl
+    go (some n) h e = absurd (true≢false (sym h ∙ ap (ltb 0) e))
+
+-- rows cut back are those that were put
+cut-back : {A : Type 0} (row : A → List ℤ) (w : ℕ) → ((a : A) → length (row a) ≡ w) → (l : List A) (rest : List ℤ) → cutRows w (length l) (rowsOf row l ++ rest) ≡ map row l
+unfolding cutRows rowsOf
+cut-back row w h [] rest = refl
+cut-back row w h (a ∷ l) rest =
+    ap (cutRows w (suc (length l))) (append-assoc (row a) (rowsOf row l) rest) ∙
+    rw (take-at (row a) (rowsOf row l ++ rest) w (h a), drop-at (row a) (rowsOf row l ++ rest) w (h a), cut-back row w h l rest)
+
+-- in a list at exit, as many as are answered
+cut-exit : {A : Type 0} (row : A → List ℤ) (w : ℕ) → ((a : A) → length (row a) ≡ w) → (l : List A) {n : ℕ} (before : List ℤ) {after : List ℤ} → n ≡ length l → after ≡ rowsThen (rowsOf row l) before → cutRows w n after ≡ map row l
+cut-exit row w h l before e f = rw (e, f) (cut-back row w h l (drop (length (rowsOf row l)) before))
+
+-- rows that pass a test, and what passes it
+keep-map : {A B : Type 0} (f : A → B) (s : A → Bool) (t : B → Bool) → ((a : A) → t (f a) ≡ s a) → (l : List A) → keep t (map f l) ≡ map f (keep s l)
+unfolding keep
+keep-map f s t h [] = refl
+keep-map f s t h (a ∷ l) = rw (h a, keep-map f s t h l) (go (s a))
+  where
+    go : (b : Bool) → cond b (f a ∷ map f (keep s l)) (map f (keep s l)) ≡ map f (cond b (a ∷ keep s l) (keep s l))
+    go true = refl
+    go false = refl
+
+-- what a text shows that may be absent
+abbrev cellOf : Option (List ℕ) → Cell
+cellOf none = absent
+cellOf (some b) = bytes b
+
+module _ (x : List ℕ) where
+  -- the two numbers of a text show what its place does
+  place-shown : (p : Place) → textCell x (placeStart p) (placeLength p) ≡ bytes (shows x p)
+  unfolding textCell clipped tidy shows
+  place-shown p = ap bytes (go (eqb (p .len) 0) refl)
+    where
+      go : (b : Bool) → eqb (p .len) 0 ≡ b → take (p .len) (drop (cond b 0 (p .start)) x) ≡ take (p .len) (drop (p .start) x)
+      go true e = rw (eqb-true (p .len) 0 e)
+      go false e = refl
+
+  text-shown : (t : Option Place) → textCell x (textStart t) (textLength t) ≡ cellOf (Option·map (shows x) t)
+  unfolding textCell
+  text-shown none = refl
+  text-shown (some p) = place-shown p
+
+-- the cells of a row whose texts are bytes
+abbrev entryCells : Entry (List ℕ) → List Cell
+entryCells e = number (pos (messageNumber (e .message))) ∷ number (pos (pathNumber (e .path))) ∷ number (pos (termNumber (e .term))) ∷ number (orAbsent (e .index)) ∷ cellOf (e .value) ∷ []
+
+abbrev unmappedCells : Unmapped (List ℕ) → List Cell
+unmappedCells u = number (pos (parentNumber (u .parent))) ∷ bytes (u .name) ∷ []
+
+abbrev allowanceChargeCells : ℕ → AllowanceCharge (List ℕ) → List Cell
+allowanceChargeCells k a =
+    number (pos k) ∷ number (a .amount) ∷ number (present (a .base)) ∷ number (hundredths (a .base)) ∷ number (unscaled (a .percentage)) ∷ number (scale (a .percentage)) ∷ bytes (a .category) ∷ number (unscaled (a .rate)) ∷ number (scale (a .rate)) ∷ cellOf (a .reason) ∷ cellOf (a .code) ∷ []
+
+abbrev heldCells : Held (List ℕ) → List Cell
+heldCells (transfer t) = number (pos 1) ∷ cellOf (t .account) ∷ cellOf (t .name) ∷ cellOf (t .provider) ∷ replicate 7 (number (pos 0))
+heldCells (vat v) = number (pos 2) ∷ number (v .taxable) ∷ number (v .tax) ∷ bytes (v .category) ∷ number (unscaled (v .rate)) ∷ number (scale (v .rate)) ∷ cellOf (v .reason) ∷ cellOf (v .code) ∷ replicate 3 (number (pos 0))
+heldCells (allowance a) = allowanceChargeCells 3 a
+heldCells (charge a) = allowanceChargeCells 4 a
+heldCells (preceding p) = number (pos 5) ∷ bytes (p .reference) ∷ number (orAbsent (p .date)) ∷ replicate 10 (number (pos 0))
+
+-- showing a row is showing its places
+module _ (x : List ℕ) where
+  entry-shown : (e : Entry Place) → shownRow entryColumns x (entryRow e) ≡ entryCells (mapEntry (shows x) e)
+  unfolding shownRow entryRow mapEntry
+  entry-shown e = rw (text-shown x (e .value))
+
+  unmapped-shown : (u : Unmapped Place) → shownRow unmappedColumns x (unmappedRow u) ≡ unmappedCells (mapUnmapped (shows x) u)
+  unfolding shownRow unmappedRow mapUnmapped
+  unmapped-shown u = rw (place-shown x (u .name))
+
+  held-shown : (h : Held Place) → shownHeldRow x (heldRow h) ≡ heldCells (mapHeld (shows x) h)
+  unfolding shownRow heldRow mapHeld mapTransfer mapVat mapAllowanceCharge mapPreceding
+  held-shown (transfer t) = rw (text-shown x (t .account), text-shown x (t .name), text-shown x (t .provider))
+  held-shown (vat v) = rw (place-shown x (v .category), text-shown x (v .reason), text-shown x (v .code))
+  held-shown (allowance a) = rw (place-shown x (a .category), text-shown x (a .reason), text-shown x (a .code))
+  held-shown (charge a) = rw (place-shown x (a .category), text-shown x (a .reason), text-shown x (a .code))
+  held-shown (preceding p) = rw (place-shown x (p .reference))
+
+-- showing rows is showing the places of each
+rows-shown : {A B : Type 0} (row : A → List ℤ) (show : List ℤ → List Cell) (m : A → B) (cells : B → List Cell) → ((a : A) → show (row a) ≡ cells (m a)) → (l : List A) → map show (map row l) ≡ map cells (map m l)
+rows-shown row show m cells h [] = refl
+rows-shown row show m cells h (a ∷ l) = rw (h a, rows-shown row show m cells h l)
+
+-- the kind of a row is its first number, whatever its texts are
+row-kind : (h : Held Place) → kindOf (heldRow h) ≡ rowKind h
+unfolding heldRow
+row-kind (transfer t) = refl
+row-kind (vat v) = refl
+row-kind (allowance a) = refl
+row-kind (charge a) = refl
+row-kind (preceding p) = refl
+
+map-kind : {X Y : Type 0} (f : X → Y) (h : Held X) → rowKind (mapHeld f h) ≡ rowKind h
+unfolding mapHeld
+map-kind f (transfer t) = refl
+map-kind f (vat v) = refl
+map-kind f (allowance a) = refl
+map-kind f (charge a) = refl
+map-kind f (preceding p) = refl
+
+-- a call that read: its numbers show what its reading does
+module _ (L : Lent) (c : Call) (p : Promised L c) (e : c .answer .refusal ≡ 0) where
+  abbrev ofCall : Outcome
+  ofCall = outcome L (roomOf (c .held) (c .entries) (c .unmapped)) (c .table) (c .text)
+
+  abbrev readingOf : Reading Place
+  readingOf = reading L (tableDoc (c .table) (c .text)) 0
+
+  call-read : ofCall ≡ read readingOf
+  call-read = outcome-zero L _ (c .table) (c .text) (sym (p .refusal) ∙ e)
+
+  result : resultOf ofCall ≡ resultOf (read readingOf)
+  result = ap resultOf call-read
+
+  terms-are : shownTerms c ≡ shown (c .text) readingOf .terms
+  unfolding shownTerms shown mapReading resultOf
+  terms-are = rw (p .terms ∙ ap (λ (r : Result). r .terms) result)
+
+  held-in : heldIn c ≡ map heldRow (readingOf .held)
+  unfolding heldIn resultOf
+  held-in = cut-exit heldRow heldWidth held-width (readingOf .held) (c .held) (p .heldCount ∙ ap (λ (r : Result). r .heldCount) result) (p .heldRows ∙ ap (λ (r : Result). rowsThen (r .held) (c .held)) result)
+
+  held-are : shownHeld c ≡ map heldCells (shown (c .text) readingOf .held)
+  unfolding shownHeld shown mapReading
+  held-are = ap (map (shownHeldRow (c .text))) held-in ∙ rows-shown heldRow (shownHeldRow (c .text)) (mapHeld (shows (c .text))) heldCells (held-shown (c .text)) (readingOf .held)
+
+  kind-are : (j : ℕ) → shownOfKind j c ≡ map heldCells (ofKind j (shown (c .text) readingOf .held))
+  unfolding shownOfKind shown mapReading ofKind
+  kind-are j =
+      ap (λ (l : List (List ℤ)). map (shownHeldRow (c .text)) (keep (λ v. eqb (kindOf v) j) l)) held-in ∙
+      ap (map (shownHeldRow (c .text))) (keep-map heldRow (λ h. eqb (rowKind h) j) (λ v. eqb (kindOf v) j) (λ h. ap (λ (k : ℕ). eqb k j) (row-kind h)) (readingOf .held)) ∙
+      rows-shown heldRow (shownHeldRow (c .text)) (mapHeld (shows (c .text))) heldCells (held-shown (c .text)) (keep (λ h. eqb (rowKind h) j) (readingOf .held)) ∙
+      ap (map heldCells) (sym (keep-map (mapHeld (shows (c .text))) (λ h. eqb (rowKind h) j) (λ h. eqb (rowKind h) j) (λ h. ap (λ (k : ℕ). eqb k j) (map-kind (shows (c .text)) h)) (readingOf .held)))
+
+  entries-are : shownEntries c ≡ map entryCells (shown (c .text) readingOf .entries)
+  unfolding shownEntries shown mapReading resultOf
+  entries-are =
+      ap (map (shownRow entryColumns (c .text))) (cut-exit entryRow entryWidth entry-width (readingOf .entries) (c .entries) (p .entryCount ∙ ap (λ (r : Result). r .entryCount) result) (p .entryRows ∙ ap (λ (r : Result). rowsThen (r .entries) (c .entries)) result))
+      ∙ rows-shown entryRow (shownRow entryColumns (c .text)) (mapEntry (shows (c .text))) entryCells (entry-shown (c .text)) (readingOf .entries)
+
+  unmapped-are : shownUnmapped c ≡ map unmappedCells (shown (c .text) readingOf .unmapped)
+  unfolding shownUnmapped shown mapReading resultOf
+  unmapped-are =
+      ap (map (shownRow unmappedColumns (c .text))) (cut-exit unmappedRow unmappedWidth unmapped-width (readingOf .unmapped) (c .unmapped) (p .unmappedCount ∙ ap (λ (r : Result). r .unmappedCount) result) (p .unmappedRows ∙ ap (λ (r : Result). rowsThen (r .unmapped) (c .unmapped)) result))
+      ∙ rows-shown unmappedRow (shownRow unmappedColumns (c .text)) (mapUnmapped (shows (c .text))) unmappedCells (unmapped-shown (c .text)) (readingOf .unmapped)
+
+-- two calls under the same mode, rules number, currency and identifier that read, the lists at entry being any
+module _ (L : Lent) (c d : Call) (p : Promised L c) (q : Promised L d) (e : c .answer .refusal ≡ 0) (f : d .answer .refusal ≡ 0) where
+  -- tables that describe the same settlement leave numbers that show the same
+  pub calls-same : treeOf (c .table) (c .text) 0 ≡ treeOf (d .table) (d .text) 0 → SameCalls c d
+  calls-same h =
+      let a = same-settlement L _ _ (c .table) (c .text) (d .table) (d .text) _ _ (call-read L c p e) (call-read L d q f) h in
+      record {
+        left = e;
+        right = f;
+        terms = terms-are L c p e ∙ ap (λ (r : Reading (List ℕ)). r .terms) a ∙ sym (terms-are L d q f);
+        held = held-are L c p e ∙ ap (λ (r : Reading (List ℕ)). map heldCells (r .held)) a ∙ sym (held-are L d q f);
+        unmapped = unmapped-are L c p e ∙ ap (λ (r : Reading (List ℕ)). map unmappedCells (r .unmapped)) a ∙ sym (unmapped-are L d q f);
+        entries = entries-are L c p e ∙ ap (λ (r : Reading (List ℕ)). map entryCells (r .entries)) a ∙ sym (entries-are L d q f);
+      }
+
+  -- and except for an exchange, numbers that show the same but for the order of rows
+  pub calls-order-free : Exchanged treeDoc (treeOf (c .table) (c .text) 0) (treeOf (d .table) (d .text) 0) → AlikeCalls c d
+  calls-order-free h =
+      let a = order-free L _ _ (c .table) (c .text) (d .table) (d .text) _ _ (call-read L c p e) (call-read L d q f) h in
+      record {
+        left = e;
+        right = f;
+        terms = terms-are L c p e ∙ a .terms ∙ sym (terms-are L d q f);
+        held = λ j. kind-are L c p e j ∙ ap (map heldCells) (a .held j) ∙ sym (kind-are L d q f j);
+        unmapped = unmapped-are L c p e ∙ ap (map unmappedCells) (a .unmapped) ∙ sym (unmapped-are L d q f);
+        entries = rw (entries-are L c p e, entries-are L d q f) (Perm·map entryCells (a .entries));
+      }
