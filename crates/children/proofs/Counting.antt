@@ -6,7 +6,7 @@ use Rattle.codes.specs.Conformant.{conformant}
 use Rattle.report.specs.Rows.{Place}
 use Rattle.settlement.specs.Document.{Doc}
 use Rattle.settlement.specs.Kinds.{Kind, tradeTax, allowanceCharge, precedingInvoice, sameKind, home}
-use Rattle.settlement.specs.Shapes.{VatState, Counts, Of, State, Currencies, Act}
+use Rattle.settlement.specs.Shapes.{VatState, Counts, Of, State, Currencies}
 use Rattle.settlement.specs.Settlement.{own, precedingOf}
 use Rattle.settlement.specs.Tax.{isCharge, counted, tradeTaxOf, allowanceOrCharge, logistics, logisticsRead, logisticsLeft}
 use Rattle.settlement.specs.Values.{Lent}

@@ -1,5 +1,5 @@
 -- The loop over the children of a settlement.
-use mathlib.Core.Path.{_≡_, refl, sym, ap, _∙_}
+use mathlib.Core.Path.{_≡_, sym, ap, _∙_}
 use mathlib.Core.Logic.{_≢_}
 use mathlib.Core.List.{List, [], _∷_, _++_, append-nil, append-assoc}
 use Prim.Native.Nat.{ℕ, _+_, _-_, _/_, _≤_, _<_}
@@ -8,8 +8,6 @@ use lib.IntN.{ℤ}
 use lib.ListN.{length}
 use Rattle.links.specs.Links.{link, chain, linked}
 use Rattle.links.proofs.Chains.{chain-start, chain-turn, chain-zero, chain-out}
-use Rattle.report.specs.Rows.{Place}
-use Rattle.settlement.specs.Document.{Doc}
 use Rattle.settlement.specs.Settlement.{kindOf}
 use Rattle.settlement.specs.Values.{Lent}
 use Rattle.element.specs.LinkDoc.{linkDoc}

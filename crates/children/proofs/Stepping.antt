@@ -1,5 +1,5 @@
 -- Laws of steps: what a child leaves as it is, and what it makes.
-use mathlib.Core.Path.{_≡_, refl, fun-ext}
+use mathlib.Core.Path.{_≡_, fun-ext}
 use mathlib.Core.List.{List, []}
 use Prim.Native.Nat.{ℕ}
 use lib.IntN.{ℤ}
@@ -11,7 +11,7 @@ use Rattle.values.proofs.Telling.{said-none}
 use Rattle.unmapped.specs.Noting.{notings, Noted}
 use Rattle.unmapped.proofs.Notings.{notings-none}
 use Rattle.report.specs.Encoding.{heldRow, rowsOf}
-use Rattle.settlement.specs.Kinds.{Kind, creditorReference, paymentReference, taxCurrency, invoiceCurrency, payee, paymentMeans, tradeTax, period, allowanceCharge, logisticsCharge, paymentTerms, summation, precedingInvoice, accounting, other, meant}
+use Rattle.settlement.specs.Kinds.{Kind, creditorReference, paymentReference, taxCurrency, invoiceCurrency, payee, paymentMeans, tradeTax, period, allowanceCharge, logisticsCharge, paymentTerms, summation, precedingInvoice, accounting, other}
 use Rattle.settlement.specs.Shapes.{State}
 
 -- two states whose lanes are the same
@@ -64,8 +64,3 @@ none-said {es} {a} {b} e f l = rw (e, f) (said-none l a)
 -- no name was noted
 pub none-noted : {us : List (Unmapped Place)} {a b : ℕ} → us ≡ [] → b ≡ a → (x : List ℕ) (u : List ℤ) → Noted (notings x u a us) u b
 none-noted {us} {a} {b} e f x u = rw (e, f) (notings-none x u a)
-
--- a name that the list does not have
-pub meant-none : {A : Type 0} (a : A) (s : List ℕ) → a ≡ meant a [] s
-unfolding meant
-meant-none a s = refl

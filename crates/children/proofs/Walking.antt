@@ -4,7 +4,7 @@ use mathlib.Core.List.{List, [], _∷_, _++_, foldl, append-nil, foldl-append}
 use Prim.Native.Nat.{ℕ}
 use native.Mathlib.Omega.{arith}
 use lib.IntN.{ℤ}
-use Rattle.report.specs.Rows.{Place, Entry, Unmapped}
+use Rattle.report.specs.Rows.{Place}
 use Rattle.report.specs.Encoding.{heldRow, rowsOf}
 use Rattle.report.specs.Placed.{Placed}
 use Rattle.report.proofs.RowsOf.{rows-none, rows-then}

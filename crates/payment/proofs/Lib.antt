@@ -1,4 +1,3 @@
-pub mod Naming
 pub mod Ahead
 pub mod Walking
 pub mod Transfers

@@ -1,4 +1,5 @@
 pub mod Walks
+pub mod Naming
 pub mod Sorting
 pub mod Lanes
 pub mod Exchange

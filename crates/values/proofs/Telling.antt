@@ -30,10 +30,6 @@ said-then {es} {fs} p q = record { rows = rows-then entryRow es fs (p .rows) (q 
 pub told-silent : {A : Type 0} {v : A} (l : List ℤ) (at : ℕ) → Told (v, []) l at v l at
 told-silent l at = record { same = refl; said = said-none l at }
 
--- what a function did by another's definition
-pub told-as : {A : Type 0} {s t : Says Place A} {l l′ : List ℤ} {at r : ℕ} {v : A} → Told s l at v l′ r → s ≡ t → Told t l at v l′ r
-told-as p e = rw e at p
-
 -- a value with what was said
 pub told-said : {A : Type 0} {v : A} {es : List (Entry Place)} {l l′ : List ℤ} {at r : ℕ} → Said es l at l′ r → Told (v, es) l at v l′ r
 told-said p = record { same = refl; said = p }

@@ -1,5 +1,5 @@
 use borrow.Author.Needs.{needs}
-use Rattle.payment.proofs.Naming.{meant-here, meant-later}
+use Rattle.settlement.proofs.Naming.{meant-here, meant-later}
 use Rattle.settlement.specs.Kinds.{creditorReference, paymentReference, taxCurrency, invoiceCurrency, payee, paymentMeans, tradeTax, kinds, kindNamed}
 use Rattle.text.specs.Utf8.{bytes, encode}
 use Rattle.children.proofs.kinds.kind_named.Statement.{statement}

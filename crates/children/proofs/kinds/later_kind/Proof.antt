@@ -1,6 +1,5 @@
 use borrow.Author.Needs.{needs}
-use Rattle.children.proofs.Stepping.{meant-none}
-use Rattle.payment.proofs.Naming.{meant-here, meant-later}
+use Rattle.settlement.proofs.Naming.{meant-here, meant-later, meant-none}
 use Rattle.settlement.specs.Kinds.{period, allowanceCharge, logisticsCharge, paymentTerms, summation, precedingInvoice, accounting, kinds}
 use Rattle.text.specs.Utf8.{bytes, encode}
 use Rattle.children.proofs.kinds.later_kind.Statement.{statement}

@@ -1,15 +1,10 @@
-use mathlib.Core.Path.{refl, sym, ap, _∙_}
-use native.Mathlib.Omega.{arith}
+use mathlib.Core.Path.{refl}
 use borrow.Author.Needs.{needs}
 use Rattle.children.proofs.Acting.{vat-acted}
 use Rattle.children.proofs.Stepping.{lanes}
 use Rattle.children.specs.Steps.{actBy, stepBy}
-use Rattle.groups.proofs.Meaning.{trade-tax-says, trade-tax-holds, trade-tax-next}
-use Rattle.report.specs.Rows.{Place, Vat, vat}
 use Rattle.settlement.specs.Kinds.{sameKind, home}
 use Rattle.settlement.specs.Settlement.{own}
-use Rattle.settlement.specs.Shapes.{VatState}
-use Rattle.settlement.specs.Tax.{tradeTaxOf}
 use Rattle.children.proofs.rows.trade_tax.Statement.{statement}
 use Rattle.children.proofs.rows.trade_tax.Tie as tie
 

@@ -1,5 +1,5 @@
 use borrow.Author.Needs.{needs}
-use Rattle.payment.proofs.Naming.{meant-here, meant-later}
+use Rattle.settlement.proofs.Naming.{meant-here, meant-later}
 use Rattle.settlement.specs.Kinds.{meant}
 use Rattle.settlement.specs.Payments.{parts}
 use Rattle.text.specs.Utf8.{bytes, encode}

@@ -1,4 +1,4 @@
-use mathlib.Core.Path.{sym, _∙_}
+use mathlib.Core.Path.{sym}
 use borrow.Author.Needs.{needs}
 use borrow.Author.Tests.{lt-ltb, le-ltb}
 use Rattle.reader.proofs.Settling.{refused-answered}
