@@ -5,7 +5,7 @@ ghost use Rattle.element.specs.LinkDoc.{linkDoc};
 ghost use Rattle.values.specs.Sites.{lentOf};
 ghost use Rattle.values.specs.Told.{Told};
 ghost use Rattle.charges.specs.Charges.{groupTermsOf, countsOf, categoryTradeTax, actualAmount, basisAmount, calculationPercent, rowSays, allowanceChargeSays};
-use crate::categories::category_of;
+use crate::categories::required_trade_tax;
 use crate::grouping::group_terms;
 use crate::indicators::is_charge;
 use crate::shapes::Group;
@@ -46,7 +46,7 @@ fn category_trade_tax(
         parent: Path::SettlementAllowanceCharge,
     };
     let want = b"CategoryTradeTax";
-    category_of(table, text, links, mode, rules, entries, at, p, g, n, want)
+    required_trade_tax(table, text, links, mode, rules, entries, at, p, g, n, want)
 }
 
 // BT-92 or BT-99 of element n.

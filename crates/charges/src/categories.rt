@@ -33,7 +33,7 @@ fn absent(entries: &mut [i64], at: usize, rules: u32, parent: Path, g: Group) ->
 }
 
 // The category in the first child of a name of element n.
-pub(crate) fn category_of(
+pub(crate) fn required_trade_tax(
     table: &[u32],
     text: &[u8],
     links: &[u16],
@@ -68,5 +68,5 @@ pub(crate) fn category_of(
         rate,
         rule,
     };
-    groups::category_in(table, text, links, mode, rules, entries, at, of, index, e)
+    groups::trade_tax(table, text, links, mode, rules, entries, at, of, index, e)
 }

@@ -5,7 +5,7 @@ ghost use Rattle.element.specs.LinkDoc.{linkDoc};
 ghost use Rattle.values.specs.Sites.{lentOf, lentWith};
 ghost use Rattle.values.specs.Told.{Told};
 ghost use Rattle.charges.specs.Charges.{groupTermsOf, maybeChargeOf, appliedTradeTax, appliedAmount, logisticsRow, logisticsSays};
-use crate::categories::category_of;
+use crate::categories::required_trade_tax;
 use crate::grouping::charge_group;
 use crate::shapes::Group;
 use crate::shapes::MaybeCharge;
@@ -48,7 +48,7 @@ fn applied_trade_tax(
         parent: Path::SettlementLogisticsCharge,
     };
     let want = b"AppliedTradeTax";
-    category_of(table, text, links, mode, rules, entries, at, p, g, n, want)
+    required_trade_tax(table, text, links, mode, rules, entries, at, p, g, n, want)
 }
 
 // BT-99 of a logistics charge n.

@@ -21,11 +21,11 @@ use Rattle.unmapped.proofs.Notings.{notings-none}
 use Rattle.unmapped.specs.Acted.{Acted}
 use Rattle.groups.specs.Taxes.{tradeTaxSays}
 use Rattle.groups.specs.Groups.{precedingSays}
-use Rattle.groups.proofs.Meaning.{trade-tax-says, trade-tax-holds, trade-tax-next, preceding-is}
+use Rattle.groups.proofs.Meaning.{vat-breakdown-says, vat-breakdown-holds, vat-breakdown-next, preceding-is}
 use Rattle.values.specs.Sites.{lentWith}
 use Rattle.charges.specs.Charges.{heldAs, allowanceChargeSays, logisticsSays}
 use Rattle.charges.proofs.Meaning.{allowance-charge-any, allowance-charge-says, allowance-charge-holds, allowance-charge-next, allowance-charge-strays, logistics-says, logistics-holds, logistics-next, logistics-strays}
-use Rattle.children.proofs.Identifier.{trade-tax-alike}
+use Rattle.children.proofs.Identifier.{vat-breakdown-alike}
 use Rattle.children.proofs.Stepping.{none-held}
 
 -- a child that says something and holds one row
@@ -57,8 +57,8 @@ pub vat-acted :
 unfolding tradeTaxOf
 vat-acted mode rules currency identifier D s n {q} {v} {h} {h′} {e} {e′} {b} {b′} {at} {r} told put x u k =
     let one : s .count + 1 ≡ suc (s .count) = omega arith in
-    rw (one, ← trade-tax-alike mode rules currency identifier D s n)
-    (row-acted (λ (w : VatState Place × Vat Place). vat (w .1)) (ap more (told .same) ∙ trade-tax-next L D s n) (trade-tax-says L D s n) (trade-tax-holds L D s n) refl told put x u k)
+    rw (one, ← vat-breakdown-alike mode rules currency identifier D s n)
+    (row-acted (λ (w : VatState Place × Vat Place). vat (w .1)) (ap more (told .same) ∙ vat-breakdown-next L D s n) (vat-breakdown-says L D s n) (vat-breakdown-holds L D s n) refl told put x u k)
   where
     L : Lent
     L = lentOf mode rules currency

@@ -37,6 +37,6 @@ module _ (mode rules : ℕ) (currency identifier : List ℕ) (D : Doc ℕ Place)
   totals-holds cur n = refl
 
   -- a VAT breakdown
-  pub trade-tax-alike : (s : VatState Place) (n : ℕ) → tradeTaxOf (lentOf mode rules currency) D s n ≡ tradeTaxOf (lentWith mode rules currency identifier) D s n
+  pub vat-breakdown-alike : (s : VatState Place) (n : ℕ) → tradeTaxOf (lentOf mode rules currency) D s n ≡ tradeTaxOf (lentWith mode rules currency identifier) D s n
   unfolding tradeTaxOf requiredAmount
-  trade-tax-alike s n = refl
+  vat-breakdown-alike s n = refl

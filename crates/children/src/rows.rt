@@ -12,7 +12,7 @@ use crate::state::State;
 use charges::MaybeCharge;
 
 // BG-23: the VAT breakdown that element c is.
-pub(crate) fn trade_tax(
+pub(crate) fn vat_breakdown(
     table: &[u32],
     text: &[u8],
     links: &[u16],
@@ -29,7 +29,7 @@ pub(crate) fn trade_tax(
 {
     let index = s.breakdowns;
     let so_far = s.vat;
-    let said = groups::trade_tax(
+    let said = groups::vat_breakdown(
         table,
         text,
         links,

@@ -22,7 +22,7 @@ use crate::plain::tax_currency;
 use crate::rows::allowance_charge;
 use crate::rows::logistics_charge;
 use crate::rows::preceding_invoice;
-use crate::rows::trade_tax;
+use crate::rows::vat_breakdown;
 use crate::state::State;
 use crate::state::blank;
 use crate::terms::payment_means;
@@ -79,7 +79,7 @@ fn read_child(
         Kind::InvoiceCurrency => invoice_currency(table, text, links, s, c),
         Kind::Payee => payee(table, text, links, s, c),
         Kind::PaymentMeans => payment_means(table, text, links, held, entries, unmapped, s, c),
-        Kind::TradeTax => trade_tax(
+        Kind::TradeTax => vat_breakdown(
             table,
             text,
             links,

@@ -14,19 +14,19 @@ use Rattle.groups.specs.Taxes.{pointSays, tradeTaxSays}
 
 module _ (L : Lent) (D : Doc ℕ Place) (s : VatState Place) (n : ℕ) where
   -- a VAT breakdown says what the definition says
-  pub trade-tax-says : tradeTaxSays L D s n .1 ≡ tradeTaxOf L D s n .says
+  pub vat-breakdown-says : tradeTaxSays L D s n .1 ≡ tradeTaxOf L D s n .says
   unfolding tradeTaxSays pointSays categorySays tradeTaxOf
-  trade-tax-says = append-assoc (pointDate (L .mode) D s n .1) (pointCode D s n .1) _
+  vat-breakdown-says = append-assoc (pointDate (L .mode) D s n .1) (pointCode D s n .1) _
 
   -- its row is the one that is held
-  pub trade-tax-holds : vat (tradeTaxSays L D s n .0 .1) ∷ [] ≡ tradeTaxOf L D s n .holds
+  pub vat-breakdown-holds : vat (tradeTaxSays L D s n .0 .1) ∷ [] ≡ tradeTaxOf L D s n .holds
   unfolding tradeTaxSays categorySays tradeTaxOf
-  trade-tax-holds = refl
+  vat-breakdown-holds = refl
 
   -- point date and code are those after it; one breakdown more is counted
-  pub trade-tax-next : record { count = suc (s .count); point = tradeTaxSays L D s n .0 .0 .point; code = tradeTaxSays L D s n .0 .0 .code; first = tradeTaxSays L D s n .0 .0 .first } ≡ tradeTaxOf L D s n .next
+  pub vat-breakdown-next : record { count = suc (s .count); point = tradeTaxSays L D s n .0 .0 .point; code = tradeTaxSays L D s n .0 .0 .code; first = tradeTaxSays L D s n .0 .0 .first } ≡ tradeTaxOf L D s n .next
   unfolding tradeTaxSays pointSays tradeTaxOf
-  trade-tax-next = refl
+  vat-breakdown-next = refl
 
 -- a preceding invoice: what it says, its row, and one more is counted
 module _ (L : Lent) (D : Doc ℕ Place) (g n : ℕ) where

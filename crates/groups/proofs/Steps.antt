@@ -60,12 +60,12 @@ module _ {l l₁ l₂ : List ℤ} {at a b : ℕ} where
       record { same = state-made _ (p .same) (ap (λ (s : VatState Place). s .code) (q .same)) (ap (λ (s : VatState Place). s .first) (q .same)); said = said-then (p .said) (q .said) }
 
   -- a VAT breakdown: point date and code, taxable amount, tax amount, category and rate, exemption reason and its code
-  pub trade-tax-told :
+  pub vat-breakdown-told :
       {l₃ l₄ : List ℤ} {c d : ℕ} {p : VatState Place} {z t : ℤ} {of : Category} {k : Place} {q : Option (ℤ × ℕ)} {x y : Option Place} (L : Lent) (D : Doc ℕ Place) (s : VatState Place) (n : ℕ) → Told (pointSays (L .mode) D s n) l at p l₁ a →
       Told (basisAmount L D (s .count) n) l₁ a z l₂ b → Told (calculatedAmount L D (s .count) n) l₂ b t l₃ c → of ≡ vatCategory → Told (categorySays (L .mode) (L .rules) D of (s .count) n) l₃ c (k, q) l₄ d →
       x ≡ kidText D 0 n (bytes "ExemptionReason") → y ≡ kidText D 0 n (bytes "ExemptionReasonCode") → Told (tradeTaxSays L D s n) l at (p, record { taxable = z; tax = t; category = k; rate = q; reason = x; code = y }) l₄ d
   unfolding tradeTaxSays
-  trade-tax-told L D s n p v t o k e f =
+  vat-breakdown-told L D s n p v t o k e f =
       let r = rw o at k in
       record {
         same = vat-made (p .same) (v .same) (t .same) (ap (λ (k : Place × Option (ℤ × ℕ)). k .0) (r .same)) (ap (λ (k : Place × Option (ℤ × ℕ)). k .1) (r .same)) e f;

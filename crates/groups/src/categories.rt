@@ -15,7 +15,7 @@ pub struct CategorySaid {
 }
 
 // The category in element n: its type code must be VAT, the code is required, the rate is not.
-pub fn category_in(
+pub fn trade_tax(
     table: &[u32],
     text: &[u8],
     links: &[u16],

@@ -12,7 +12,7 @@ mod shapes;
 mod taxes;
 
 pub use categories::CategorySaid;
-pub use categories::category_in;
+pub use categories::trade_tax;
 pub use parties::payee;
 pub use periods::PaymentTermsSaid;
 pub use periods::PeriodSaid;
@@ -28,5 +28,5 @@ pub use shapes::PaymentTerms;
 pub use shapes::Period;
 pub use shapes::PointCode;
 pub use shapes::VatState;
-pub use taxes::TradeTaxSaid;
-pub use taxes::trade_tax;
+pub use taxes::VatBreakdownSaid;
+pub use taxes::vat_breakdown;

@@ -6,7 +6,7 @@ ghost use Rattle.element.specs.LinkDoc.{linkDoc};
 ghost use Rattle.values.specs.Sites.{lentOf};
 ghost use Rattle.values.specs.Told.{Told};
 ghost use Rattle.groups.specs.Taxes.{vatStateOf, vatCategory, freshCodeOf, pointSays, basisAmount, calculatedAmount, tradeTaxSays};
-use crate::categories::category_in;
+use crate::categories::trade_tax;
 use crate::shapes::Category;
 use crate::shapes::PointCode;
 use crate::shapes::VatState;
@@ -29,7 +29,7 @@ pub struct VatSaid {
 }
 
 // A VAT breakdown, too.
-pub struct TradeTaxSaid {
+pub struct VatBreakdownSaid {
     pub state: VatState,
     pub vat: Vat,
     pub at: usize,
@@ -261,7 +261,7 @@ fn vat_category() -> Category
 }
 
 // The VAT breakdown that element n is, the one of this index.
-pub fn trade_tax(
+pub fn vat_breakdown(
     table: &[u32],
     text: &[u8],
     links: &[u16],
@@ -273,7 +273,7 @@ pub fn trade_tax(
     index: u32,
     s: VatState,
     n: usize,
-) -> TradeTaxSaid
+) -> VatBreakdownSaid
     ensures { λ r. ⌜ Told (tradeTaxSays (lentOf mode rules (now (currency .entry))) (linkDoc (now (table .entry)) (now (text .entry)) (now (links .entry))) (vatStateOf index s) n) (now (entries .entry)) at ((vatStateOf index (r .state), vatOf (r .vat))) (now (entries .exit)) (r .at) ⌝ }
 {
     let g = index;
@@ -284,13 +284,13 @@ pub fn trade_tax(
     let tax = calculated_amount(table, text, links, mode, rules, currency, entries, at, g, n);
     let at = tax.at;
     let of = vat_category();
-    let category = category_in(table, text, links, mode, rules, entries, at, of, index, n);
+    let category = trade_tax(table, text, links, mode, rules, entries, at, of, index, n);
     let state = moment.state;
     let basis = taxable.amount;
     let due = tax.amount;
     let kind = category.category;
     let rate = category.rate;
-    TradeTaxSaid {
+    VatBreakdownSaid {
         state,
         vat: Vat {
             taxable: basis,

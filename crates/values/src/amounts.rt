@@ -10,7 +10,7 @@ ghost use Rattle.element.specs.LinkDoc.{linkDoc};
 ghost use Rattle.values.specs.Sites.{siteOf, lentOf, missingAmount};
 ghost use Rattle.values.specs.Told.{Told};
 use crate::currencies::Fault;
-use crate::currencies::wrong_currency;
+use crate::currencies::in_document_currency;
 use crate::saying::Site;
 use crate::saying::missing;
 use crate::saying::say;
@@ -133,7 +133,7 @@ fn in_currency(
 ) -> AmountSaid
     ensures { λ r. ⌜ Told (reading.inCurrency mode (now (currency .entry)) (linkDoc (now (table .entry)) (now (text .entry)) (now (links .entry))) (siteOf site) e (placeOf id)) (now (entries .entry)) at (amountOf (r .amount)) (now (entries .exit)) (r .at) ⌝ }
 {
-    let fault = wrong_currency(currency, element::shown(text, id));
+    let fault = in_document_currency(currency, element::shown(text, id));
     match fault {
         Fault::Right => parsed(table, text, links, mode, entries, at, site, e),
         Fault::Wrong(message) => AmountSaid {

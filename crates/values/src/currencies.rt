@@ -12,7 +12,7 @@ pub(crate) enum Fault {
 
 // What is wrong with a currencyID beside an invoice currency: it must be listed, and the same where
 // there is one.
-pub(crate) fn wrong_currency(currency: &[u8], id: &[u8]) -> Fault
+pub(crate) fn in_document_currency(currency: &[u8], id: &[u8]) -> Fault
     ensures { λ r. ⌜ faultOf r ≡ wrongCurrency (now (currency .entry)) (now (id .entry)) ⌝ }
 {
     if codes::is_currency(id) {

@@ -5,7 +5,7 @@ use Rattle.charges.proofs.allowances.category_trade_tax.Tie as tie
 
 returns : tie.Need-returns
 unfolding bytes encode
-returns c = c .before .category-of .ensures
+returns c = c .before .required-trade-tax .ensures
 
 pub category-trade-tax-spec : {M : Type 1} → statement M
 category-trade-tax-spec =

@@ -5,7 +5,7 @@ use Rattle.charges.proofs.logistics.applied_trade_tax.Tie as tie
 
 returns : tie.Need-returns
 unfolding bytes encode
-returns c = c .before .category-of .ensures
+returns c = c .before .required-trade-tax .ensures
 
 pub applied-trade-tax-spec : {M : Type 1} → statement M
 applied-trade-tax-spec =

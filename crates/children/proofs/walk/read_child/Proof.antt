@@ -21,7 +21,7 @@ returns-6 : tie.Need-returns-6
 returns-6 c = rw (← c .before .before .before .before .before .before .before .before .before .kind-of .ensures, c .before .before .before .before .before .before .before .enum-told6 .given .1) (c .before .before .before .payment-means .ensures _)
 
 returns-7 : tie.Need-returns-7
-returns-7 c = rw (← c .before .before .before .before .before .before .before .kind-of .ensures, c .before .before .before .before .before .enum-told7 .given .1) (c .before .before .trade-tax .ensures _ _)
+returns-7 c = rw (← c .before .before .before .before .before .before .before .kind-of .ensures, c .before .before .before .before .before .enum-told7 .given .1) (c .before .before .vat-breakdown .ensures _ _)
 
 returns-8 : tie.Need-returns-8
 returns-8 c = rw (← c .before .before .before .before .before .kind-of .ensures, c .before .before .before .enum-told8 .given .1) (c .before .period .ensures _ _ _ _ _)

@@ -1,7 +1,7 @@
 use borrow.Author.Needs.{needs}
 use Rattle.values.proofs.Currency.{no-currency, same-currency, other-currency, not-listed}
-use Rattle.values.proofs.currencies.wrong_currency.Statement.{statement}
-use Rattle.values.proofs.currencies.wrong_currency.Tie as tie
+use Rattle.values.proofs.currencies.in_document_currency.Statement.{statement}
+use Rattle.values.proofs.currencies.in_document_currency.Tie as tie
 
 returns : tie.Need-returns
 returns c = search no-currency
@@ -15,6 +15,6 @@ returns-3 c = search other-currency
 returns-4 : tie.Need-returns-4
 returns-4 c = search not-listed
 
-pub wrong-currency-spec : {M : Type 1} → statement M
-wrong-currency-spec =
+pub in-document-currency-spec : {M : Type 1} → statement M
+in-document-currency-spec =
     tie.close (tie.spec (λ c κs. search needs) returns (λ c κs. search needs) returns-2 returns-3 returns-4)

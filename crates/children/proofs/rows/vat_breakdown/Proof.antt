@@ -5,15 +5,15 @@ use Rattle.children.proofs.Stepping.{lanes}
 use Rattle.children.specs.Steps.{actBy, stepBy}
 use Rattle.settlement.specs.Kinds.{sameKind, home}
 use Rattle.settlement.specs.Settlement.{own}
-use Rattle.children.proofs.rows.trade_tax.Statement.{statement}
-use Rattle.children.proofs.rows.trade_tax.Tie as tie
+use Rattle.children.proofs.rows.vat_breakdown.Statement.{statement}
+use Rattle.children.proofs.rows.vat_breakdown.Tie as tie
 
 returns : tie.Need-returns
 unfolding stepBy actBy own home sameKind
 returns c identifier u =
-    let acted = vat-acted _ _ _ identifier _ _ _ (c .before .before .before .before .before .before .before .before .trade-tax .ensures) (c .before .before .before .put-vat .ensures) _ u _ in
+    let acted = vat-acted _ _ _ identifier _ _ _ (c .before .before .before .before .before .before .before .before .vat-breakdown .ensures) (c .before .before .before .put-vat .ensures) _ u _ in
     record { state = lanes refl refl refl refl refl refl (acted .same) refl refl refl refl refl refl refl refl; held = acted .held; said = acted .said; noted = acted .noted }
 
-pub trade-tax-spec : {M : Type 1} → statement M
-trade-tax-spec =
+pub vat-breakdown-spec : {M : Type 1} → statement M
+vat-breakdown-spec =
     tie.close (tie.spec (λ c κs. search needs) (λ c. search needs) (λ c κs. search needs) (λ c. search needs) (λ c. search needs) returns)

@@ -3,8 +3,8 @@ use Rattle.charges.specs.Charges.{noCategory}
 use Rattle.element.proofs.Documents.{found-is}
 use Rattle.groups.specs.Categories.{categorySays}
 use Rattle.settlement.specs.Tax as reading
-use Rattle.charges.proofs.categories.category_of.Statement.{statement}
-use Rattle.charges.proofs.categories.category_of.Tie as tie
+use Rattle.charges.proofs.categories.required_trade_tax.Statement.{statement}
+use Rattle.charges.proofs.categories.required_trade_tax.Tie as tie
 
 returns : tie.Need-returns
 unfolding reading.categoryOf noCategory
@@ -12,8 +12,8 @@ returns c = rw (← c .before .before .before .before .kid .ensures, c .before .
 
 returns-2 : tie.Need-returns-2
 unfolding reading.categoryOf reading.categoryIn categorySays
-returns-2 c = rw (← c .before .before .before .before .kid .ensures, found-is (c .before .before .before .if1 .left)) (c .before .category-in .ensures)
+returns-2 c = rw (← c .before .before .before .before .kid .ensures, found-is (c .before .before .before .if1 .left)) (c .before .trade-tax .ensures)
 
-pub category-of-spec : {M : Type 1} → statement M
-category-of-spec =
+pub required-trade-tax-spec : {M : Type 1} → statement M
+required-trade-tax-spec =
     tie.close (tie.spec (λ c κs. search needs) (λ c κs. search needs) (λ c. search needs) returns (λ c κs. search needs) (λ c. search needs) returns-2)
