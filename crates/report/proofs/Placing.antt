@@ -6,7 +6,6 @@ use Prim.Native.Nat.{ℕ, suc, _+_, _-_, _≤_, _<_}
 use native.Mathlib.Omega.{arith}
 use borrow.Author.Tests.{le-leb, lt-leb, leb-true, leb-false}
 use lib.Dec.{leb}
-use lib.IntN.{ℤ}
 use lib.ListN.{length, length-append}
 use lib.Seq.{set-out}
 use Rattle.names.specs.Put.{put}
@@ -54,17 +53,17 @@ behind-behind size at m n = go (leb size at) refl (leb (size - at) m) refl (leb 
         behind-behind-room h k j = rw (behind-room size at m h k, behind-room size (at + m) n (omega arith) j, behind-room size at (m + n) h (omega arith)) (omega arith)
 
 -- nothing is put beyond the list
-put-out : (vs l : List ℤ) (at : ℕ) → length l ≤ at → put l at vs ≡ l
+put-out : {A : Type 0} → (vs l : List A) (at : ℕ) → length l ≤ at → put l at vs ≡ l
 unfolding put
 put-out [] l at h = refl
 put-out (v ∷ vs) l at h = rw (set-out l at v h) (put-out vs l (suc at) (omega arith))
 
 -- two places beyond the list are as good as one
-put-far : (l vs : List ℤ) (a b : ℕ) → length l ≤ a → length l ≤ b → put l a vs ≡ put l b vs
+put-far : {A : Type 0} → (l vs : List A) (a b : ℕ) → length l ≤ a → length l ≤ b → put l a vs ≡ put l b vs
 put-far l vs a b h k = put-out vs l a h ∙ sym (put-out vs l b k)
 
 -- a row behind another
-put-behind : (l vs ws : List ℤ) (at : ℕ) → put (put l at vs) (behind (length l) at (length vs)) ws ≡ put l at (vs ++ ws)
+put-behind : {A : Type 0} → (l vs ws : List A) (at : ℕ) → put (put l at vs) (behind (length l) at (length vs)) ws ≡ put l at (vs ++ ws)
 put-behind l vs ws at = go (leb (length l) at) refl (leb (length l - at) (length vs)) refl ∙ put-put vs l ws at
   where
     n : length (put l at vs) ≡ length l
@@ -81,7 +80,7 @@ put-behind l vs ws at = go (leb (length l) at) refl (leb (length l - at) (length
     go false e false f = rw (behind-room (length l) at (length vs) (leb-false (length l) at e) (leb-false (length l - at) (length vs) f))
 
 -- nothing was put
-pub placed-none : (l : List ℤ) (at : ℕ) → Placed l at [] l at
+pub placed-none : {A : Type 0} → (l : List A) (at : ℕ) → Placed l at [] l at
 placed-none l at = record { now = sym (put-none l at); end = go (leb (length l) at) refl }
   where
     go : (a : Bool) → leb (length l) at ≡ a → at ≡ behind (length l) at 0
@@ -91,14 +90,14 @@ placed-none l at = record { now = sym (put-none l at); end = go (leb (length l) 
         sym (behind-room (length l) at 0 h (omega arith) ∙ omega arith)
 
 -- one after the other
-pub placed-then : {l l′ l″ vs ws : List ℤ} {at a b : ℕ} → Placed l at vs l′ a → Placed l′ a ws l″ b → Placed l at (vs ++ ws) l″ b
-placed-then {l} {l′} {l″} {vs} {ws} {at} {a} {b} p q = record { now = now; end = end }
+pub placed-then : {A : Type 0} {l l′ l″ vs ws : List A} {at a b : ℕ} → Placed l at vs l′ a → Placed l′ a ws l″ b → Placed l at (vs ++ ws) l″ b
+placed-then {A} {l} {l′} {l″} {vs} {ws} {at} {a} {b} p q = record { now = now; end = end }
   where
     size : length l′ ≡ length l
     size = ap length (p .now) ∙ length-put l at vs
 
     now : l″ ≡ put l at (vs ++ ws)
-    now = q .now ∙ ap (λ (m : List ℤ). put m a ws) (p .now) ∙ ap (λ (c : ℕ). put (put l at vs) c ws) (p .end) ∙ put-behind l vs ws at
+    now = q .now ∙ ap (λ (m : List A). put m a ws) (p .now) ∙ ap (λ (c : ℕ). put (put l at vs) c ws) (p .end) ∙ put-behind l vs ws at
 
     end : b ≡ behind (length l) at (length (vs ++ ws))
     end =
@@ -106,8 +105,8 @@ placed-then {l} {l′} {l″} {vs} {ws} {at} {a} {b} p q = record { now = now; e
         behind-behind (length l) at (length vs) (length ws) ∙ ap (behind (length l) at) (sym (length-append vs ws))
 
 -- with room, the next row goes right behind
-pub placed-room : {l l′ vs : List ℤ} {at a : ℕ} → Placed l at vs l′ a → at + length vs ≤ length l → a ≡ at + length vs
-placed-room {l} {l′} {vs} {at} {a} p h = p .end ∙ go (leb (length l) at) refl (leb (length l - at) (length vs)) refl
+pub placed-room : {A : Type 0} {l l′ vs : List A} {at a : ℕ} → Placed l at vs l′ a → at + length vs ≤ length l → a ≡ at + length vs
+placed-room {A} {l} {l′} {vs} {at} {a} p h = p .end ∙ go (leb (length l) at) refl (leb (length l - at) (length vs)) refl
   where
     go : (a : Bool) → leb (length l) at ≡ a → (b : Bool) → leb (length l - at) (length vs) ≡ b → behind (length l) at (length vs) ≡ at + length vs
     go true e b f = behind-full (length l) at (length vs) (leb-true (length l) at e) ∙ omega (arith, leb-true (length l) at e)
@@ -118,5 +117,5 @@ placed-room {l} {l′} {vs} {at} {a} p h = p .end ∙ go (leb (length l) at) ref
     go false e false f = behind-room (length l) at (length vs) (leb-false (length l) at e) (leb-false (length l - at) (length vs) f)
 
 -- numbers that were put, and the place behind them
-pub placed-by : {l l′ vs : List ℤ} {at r : ℕ} → l′ ≡ put l at vs → r ≡ behind (length l′) at (length vs) → Placed l at vs l′ r
-placed-by {l} {l′} {vs} {at} {r} p e = record { now = p; end = e ∙ ap (λ (s : ℕ). behind s at (length vs)) (ap length p ∙ length-put l at vs) }
+pub placed-by : {A : Type 0} {l l′ vs : List A} {at r : ℕ} → l′ ≡ put l at vs → r ≡ behind (length l′) at (length vs) → Placed l at vs l′ r
+placed-by {A} {l} {l′} {vs} {at} {r} p e = record { now = p; end = e ∙ ap (λ (s : ℕ). behind s at (length vs)) (ap length p ∙ length-put l at vs) }

@@ -38,8 +38,8 @@ fn put_numbers(list: &mut [i64], at: usize, numbers: &[i64])
     }
 }
 
-// The place behind n numbers put at a place of a list of this size.
-fn behind(size: usize, at: usize, n: usize) -> usize
+// The place behind n numbers or bytes put at a place of a list of this size.
+pub fn behind(size: usize, at: usize, n: usize) -> usize
     ensures { λ r. ⌜ r ≡ placed.behind size at n ⌝ }
 {
     if size <= at {
@@ -52,7 +52,7 @@ fn behind(size: usize, at: usize, n: usize) -> usize
 }
 
 // Puts a row into a list at a place, and answers where the next goes.
-pub(crate) fn put_row(list: &mut [i64], at: usize, row: &[i64]) -> usize
+pub fn put_row(list: &mut [i64], at: usize, row: &[i64]) -> usize
     ensures { λ r. ⌜ Placed (now (list .entry)) at (now (row .entry)) (now (list .exit)) r ⌝ }
 {
     put_numbers(list, at, row);

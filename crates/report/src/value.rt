@@ -60,7 +60,7 @@ fn sum(a: u32, b: u32) -> i64
 }
 
 // An empty text starts at 0, wherever it was cut.
-pub(crate) fn place_start(p: Place) -> i64
+pub fn place_start(p: Place) -> i64
     ensures { λ r. ⌜ r ≡ placeStart (placeOf p) ⌝ }
 {
     let empty = p.len == 0;
@@ -70,13 +70,13 @@ pub(crate) fn place_start(p: Place) -> i64
     sum(p.start, p.skip)
 }
 
-pub(crate) fn place_length(p: Place) -> i64
+pub fn place_length(p: Place) -> i64
     ensures { λ r. ⌜ r ≡ placeLength (placeOf p) ⌝ }
 {
     signed(p.len)
 }
 
-pub(crate) fn text_start(t: Text) -> i64
+pub fn text_start(t: Text) -> i64
     ensures { λ r. ⌜ r ≡ textStart (textOf t) ⌝ }
 {
     match t {
@@ -85,7 +85,7 @@ pub(crate) fn text_start(t: Text) -> i64
     }
 }
 
-pub(crate) fn text_length(t: Text) -> i64
+pub fn text_length(t: Text) -> i64
     ensures { λ r. ⌜ r ≡ textLength (textOf t) ⌝ }
 {
     match t {
@@ -94,7 +94,7 @@ pub(crate) fn text_length(t: Text) -> i64
     }
 }
 
-pub(crate) fn amount_present(a: Amount) -> i64
+pub fn amount_present(a: Amount) -> i64
     ensures { λ r. ⌜ r ≡ present (amountOf a) ⌝ }
 {
     match a {
@@ -103,7 +103,7 @@ pub(crate) fn amount_present(a: Amount) -> i64
     }
 }
 
-pub(crate) fn amount_hundredths(a: Amount) -> i64
+pub fn amount_hundredths(a: Amount) -> i64
     ensures { λ r. ⌜ r ≡ hundredths (amountOf a) ⌝ }
 {
     match a {
@@ -130,7 +130,7 @@ pub(crate) fn percent_scale(q: Percent) -> i64
     }
 }
 
-pub(crate) fn day_number(d: Day) -> i64
+pub fn day_number(d: Day) -> i64
     ensures { λ r. ⌜ r ≡ orAbsent (dayOf d) ⌝ }
 {
     match d {
