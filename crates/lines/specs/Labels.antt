@@ -1,0 +1,29 @@
+-- Paths and terms as the Rust prints them, by their numbers (document 01, "Rows": Entry, Unmapped).
+use mathlib.Core.Bool.{cond}
+use mathlib.Core.List.{List, [], _∷_, _++_}
+use mathlib.Core.Option.{Option, none, some}
+use Prim.Native.Nat.{ℕ}
+use lib.Dec.{eqb}
+use lib.IntN.{ℤ, pos, negsuc}
+use lib.ListN.{length}
+use Rattle.text.specs.Utf8.{bytes}
+use Rattle.labels.specs.TermName.{termGroupAt, termNameAt}
+use Rattle.labels.specs.ParentName.{parentNameAt}
+use Rattle.lines.specs.Decimal.{decimal}
+
+-- a group's index in brackets, nothing where it has none (-1)
+unfoldable pub bracketed : ℤ → List ℕ
+bracketed (pos i) = bytes "[" ++ decimal i ++ bytes "]"
+bracketed (negsuc i) = []
+
+-- the group, if the term stands in one, with its index, a slash and the term's name: `BG-23[0]/BT-116`
+unfoldable pub termText : List ℕ → ℤ → List ℕ → List ℕ
+termText group index name = cond (eqb (length group) 0) name (group ++ bracketed index ++ bytes "/" ++ name)
+
+-- the same by the term's number, 0 being none
+unfoldable pub termShown : ℕ → ℤ → Option (List ℕ)
+termShown n index = cond (eqb n 0) none (some (termText (termGroupAt n) index (termNameAt n)))
+
+-- an unmapped element's parent and its name, parted by a slash
+unfoldable pub unmappedPath : ℕ → List ℕ → List ℕ
+unmappedPath parent name = parentNameAt parent ++ bytes "/" ++ name
