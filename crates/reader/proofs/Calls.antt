@@ -1,14 +1,13 @@
 -- Demand 3 at the calls: two calls that read, lent any lists, whose tables describe the same settlement except for an exchange, leave numbers that show the same but for the order of rows.
 use mathlib.Core.Path.{_≡_, refl, sym, ap, _∙_}
 use mathlib.Core.Bool.{Bool, true, false, cond, true≢false}
-use mathlib.Core.List.{List, [], _∷_, _++_, append-assoc, map, Perm·map}
+use mathlib.Core.List.{List, [], _∷_, map, Perm·map}
 use mathlib.Core.Option.{Option, none, some, Option·map}
-use Prim.Native.Nat.{ℕ, suc}
+use Prim.Native.Nat.{ℕ}
 use borrow.Author.Tests.{eqb-true}
 use lib.Dec.{eqb, ltb}
 use lib.IntN.{ℤ, pos}
 use lib.ListN.{length, take, drop, replicate}
-use lib.Seq.{take-at, drop-at}
 use Rattle.text.specs.Span.{clipped}
 use Rattle.names.specs.Message.{messageNumber}
 use Rattle.names.specs.Path.{pathNumber}
@@ -16,7 +15,8 @@ use Rattle.names.specs.Term.{termNumber}
 use Rattle.names.specs.Parent.{parentNumber}
 use Rattle.refusals.specs.Refusals.{refuse, recordRefusal, sizeRefusal, refusal}
 use Rattle.report.specs.Rows.{Place, Entry, AllowanceCharge, Held, transfer, vat, allowance, charge, preceding, Unmapped, mapEntry, mapTransfer, mapVat, mapAllowanceCharge, mapPreceding, mapHeld, mapUnmapped}
-use Rattle.report.specs.Encoding.{heldWidth, entryWidth, unmappedWidth, tidy, placeStart, placeLength, textStart, textLength, unscaled, scale, present, hundredths, orAbsent, heldRow, entryRow, unmappedRow, rowsOf}
+use Rattle.report.specs.Encoding.{heldWidth, entryWidth, unmappedWidth, tidy, placeStart, placeLength, textStart, textLength, unscaled, scale, present, hundredths, orAbsent, heldRow, entryRow, unmappedRow, rowsThen}
+use Rattle.report.proofs.RowsOf.{cut-exit}
 use Rattle.report.proofs.Widths.{held-width, entry-width, unmapped-width}
 use Rattle.settlement.specs.Shapes.{Reading}
 use Rattle.settlement.specs.Values.{Lent}
@@ -31,8 +31,8 @@ use Rattle.settlement.specs.Result.{Result, resultOf}
 use Rattle.settlement.specs.Alike.{rowKind, keep, ofKind}
 use Rattle.settlement.specs.Exchange.{Exchanged}
 use Rattle.settlement.proofs.AnyOrder.{same-settlement, order-free}
-use Rattle.reader.specs.Answered.{roomOf, rowsThen}
-use Rattle.reader.specs.Calls.{cutRows, Cell, number, absent, bytes, textCell, shownRow, entryColumns, unmappedColumns, kindOf, shownHeldRow, Call, Promised, shownTerms, heldIn, shownHeld, shownOfKind, shownEntries, shownUnmapped, AlikeCalls, SameCalls}
+use Rattle.reader.specs.Answered.{roomOf}
+use Rattle.reader.specs.Calls.{Cell, number, absent, bytes, textCell, shownRow, entryColumns, unmappedColumns, kindOf, shownHeldRow, Call, Promised, shownTerms, heldIn, shownHeld, shownOfKind, shownEntries, shownUnmapped, AlikeCalls, SameCalls}
 
 -- a refusal's number is not 0
 unfoldable numbered : Option (ℕ × ℕ) → Bool
@@ -69,18 +69,6 @@ outcome-zero L m t x e = go (callRefusal L m t x) (call-numbered L m t x) e
     go : (o : Option (ℕ × ℕ)) → numbered o ≡ true → resultOf (unless o (reading L (tableDoc t x) 0)) .number ≡ 0 → unless o (reading L (tableDoc t x) 0) ≡ read (reading L (tableDoc t x) 0)
     go none h e = refl
     go (some n) h e = absurd (true≢false (sym h ∙ ap (ltb 0) e))
-
--- rows cut back are those that were put
-cut-back : {A : Type 0} (row : A → List ℤ) (w : ℕ) → ((a : A) → length (row a) ≡ w) → (l : List A) (rest : List ℤ) → cutRows w (length l) (rowsOf row l ++ rest) ≡ map row l
-unfolding cutRows rowsOf
-cut-back row w h [] rest = refl
-cut-back row w h (a ∷ l) rest =
-    ap (cutRows w (suc (length l))) (append-assoc (row a) (rowsOf row l) rest) ∙
-    rw (take-at (row a) (rowsOf row l ++ rest) w (h a), drop-at (row a) (rowsOf row l ++ rest) w (h a), cut-back row w h l rest)
-
--- in a list at exit, as many as are answered
-cut-exit : {A : Type 0} (row : A → List ℤ) (w : ℕ) → ((a : A) → length (row a) ≡ w) → (l : List A) {n : ℕ} (before : List ℤ) {after : List ℤ} → n ≡ length l → after ≡ rowsThen (rowsOf row l) before → cutRows w n after ≡ map row l
-cut-exit row w h l before e f = rw (e, f) (cut-back row w h l (drop (length (rowsOf row l)) before))
 
 -- rows that pass a test, and what passes it
 keep-map : {A B : Type 0} (f : A → B) (s : A → Bool) (t : B → Bool) → ((a : A) → t (f a) ≡ s a) → (l : List A) → keep t (map f l) ≡ map f (keep s l)

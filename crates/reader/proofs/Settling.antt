@@ -16,7 +16,7 @@ use Rattle.links.proofs.Linking.{linked-kids, link-length, roomy-is, blank-zero
 use Rattle.names.specs.Put.{put}
 use Rattle.names.proofs.Puts.{put-eq}
 use Rattle.report.specs.Rows.{Place}
-use Rattle.report.specs.Encoding.{heldWidth, entryWidth, unmappedWidth, heldRow, entryRow, unmappedRow, rowsOf}
+use Rattle.report.specs.Encoding.{heldWidth, entryWidth, unmappedWidth, heldRow, entryRow, unmappedRow, rowsOf, rowsThen}
 use Rattle.report.specs.Placed.{Placed}
 use Rattle.report.proofs.Placing.{placed-room}
 use Rattle.report.proofs.RowsOf.{rows-length}
@@ -40,7 +40,7 @@ use Rattle.children.specs.States.{stateOf}
 use Rattle.children.specs.Steps.{countable, Read}
 use Rattle.children.specs.declared.state.State as State
 use Rattle.reader.specs.Answers.{termsOf, Refused}
-use Rattle.reader.specs.Answered.{roomOf, rowsThen, Answered}
+use Rattle.reader.specs.Answered.{roomOf, Answered}
 use Rattle.reader.specs.Endings.{Ended}
 use Rattle.reader.specs.declared.answer.Answer as Code
 use Rattle.reader.specs.declared.ending.Finished as Finished

@@ -1,8 +1,9 @@
 -- What a call of the reader did, against what it is defined to answer (document 01, "Rows" and "Where each refusal is checked").
 use mathlib.Core.Path.{_≡_}
-use mathlib.Core.List.{List, _++_}
+use mathlib.Core.List.{List}
 use lib.IntN.{ℤ}
-use lib.ListN.{length, drop}
+use lib.ListN.{length}
+use Rattle.report.specs.Encoding.{rowsThen}
 use Rattle.settlement.specs.Outcome.{Room, Outcome}
 use Rattle.settlement.specs.Result.{resultOf}
 use Rattle.reader.specs.Answers.{termsOf}
@@ -11,10 +12,6 @@ use Rattle.reader.specs.declared.answer.Answer as Code
 -- the room of the three lent lists
 abbrev pub roomOf : List ℤ → List ℤ → List ℤ → Room
 roomOf held entries unmapped = record { held = length held; entries = length entries; unmapped = length unmapped }
-
--- a list at exit: rows, then what the list held after that many numbers at entry
-abbrev pub rowsThen : List ℤ → List ℤ → List ℤ
-rowsThen rows before = rows ++ drop (length rows) before
 
 -- answer, terms and counts are those of the outcome, and so are the rows at the front of each list; a refusal has no rows, so that all three lists are as they were
 pub record Answered (o : Outcome) (r : Code.Answer) (held held′ entries entries′ unmapped unmapped′ : List ℤ) : Type 0 where

@@ -1,12 +1,12 @@
 -- Two calls of the reader, compared by the numbers that they leave in the lent lists (document 01, "Rows": by what spans show, absent apart from empty, not by their places).
 use mathlib.Core.Path.{_≡_}
 use mathlib.Core.List.{List, [], _∷_, map, Perm}
-use Prim.Native.Nat.{ℕ, zero, suc}
+use Prim.Native.Nat.{ℕ}
 use lib.Dec.{eqb}
 use lib.IntN.{ℤ, pos, negsuc}
-use lib.ListN.{getD, take, drop}
+use lib.ListN.{getD}
 use Rattle.text.specs.Span.{clipped}
-use Rattle.report.specs.Encoding.{heldWidth, entryWidth, unmappedWidth}
+use Rattle.report.specs.Encoding.{heldWidth, entryWidth, unmappedWidth, cutRows}
 use Rattle.settlement.specs.Shapes.{Terms}
 use Rattle.settlement.specs.Values.{Lent}
 use Rattle.settlement.specs.TableDoc.{shows}
@@ -16,11 +16,6 @@ use Rattle.settlement.specs.Alike.{keep}
 use Rattle.reader.specs.Answers.{termsOf}
 use Rattle.reader.specs.Answered.{roomOf, Answered}
 use Rattle.reader.specs.declared.answer.Answer as Code
-
--- the first n rows of a list, each w numbers wide
-unfoldable pub cutRows : ℕ → ℕ → List ℤ → List (List ℤ)
-cutRows w zero l = []
-cutRows w (suc n) l = take w l ∷ cutRows w n (drop w l)
 
 -- what stands in a column of a row: a number, or the start and the length of a text
 pub data Column : Type 0 where

@@ -1,12 +1,13 @@
 -- Laws of rows one after the other.
 use mathlib.Core.Path.{_≡_, refl, sym, ap, _∙_}
-use mathlib.Core.List.{List, [], _∷_, _++_, append-nil, append-assoc}
-use Prim.Native.Nat.{ℕ, _*_}
+use mathlib.Core.List.{List, [], _∷_, _++_, map, append-nil, append-assoc}
+use Prim.Native.Nat.{ℕ, suc, _*_}
 use native.Mathlib.Omega.{arith}
 use native.Mathlib.Nat.{suc-mul}
 use lib.IntN.{ℤ}
-use lib.ListN.{length, length-append}
-use Rattle.report.specs.Encoding.{rowsOf}
+use lib.ListN.{length, drop, length-append}
+use lib.Seq.{take-at, drop-at}
+use Rattle.report.specs.Encoding.{rowsOf, rowsThen, cutRows}
 use Rattle.report.specs.Placed.{Placed}
 use Rattle.report.proofs.Cells.{as-row}
 use Rattle.report.proofs.Placing.{placed-none, placed-then}
@@ -37,3 +38,15 @@ module _ {A : Type 0} (row : A → List ℤ) where
   -- one list's, then the other's
   pub rows-then : (a b : List A) {l l′ l″ : List ℤ} {at m r : ℕ} → Placed l at (rowsOf row a) l′ m → Placed l′ m (rowsOf row b) l″ r → Placed l at (rowsOf row (a ++ b)) l″ r
   rows-then a b {l} {l′} {l″} {at} p q = as-row l at (sym (rows-append a b)) (placed-then p q)
+
+  -- rows cut back are those that were put
+  cut-back : (w : ℕ) → ((a : A) → length (row a) ≡ w) → (l : List A) (rest : List ℤ) → cutRows w (length l) (rowsOf row l ++ rest) ≡ map row l
+  unfolding cutRows rowsOf
+  cut-back w h [] rest = refl
+  cut-back w h (a ∷ l) rest =
+      ap (cutRows w (suc (length l))) (append-assoc (row a) (rowsOf row l) rest) ∙
+      rw (take-at (row a) (rowsOf row l ++ rest) w (h a), drop-at (row a) (rowsOf row l ++ rest) w (h a), cut-back w h l rest)
+
+  -- in a list at exit, as many as are answered
+  pub cut-exit : (w : ℕ) → ((a : A) → length (row a) ≡ w) → (l : List A) {n : ℕ} (before : List ℤ) {after : List ℤ} → n ≡ length l → after ≡ rowsThen (rowsOf row l) before → cutRows w n after ≡ map row l
+  cut-exit w h l before e f = rw (e, f) (cut-back w h l (drop (length (rowsOf row l)) before))

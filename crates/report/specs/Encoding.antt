@@ -2,10 +2,10 @@
 use mathlib.Core.Bool.{cond}
 use mathlib.Core.List.{List, [], _∷_, _++_}
 use mathlib.Core.Option.{Option, none, some}
-use Prim.Native.Nat.{ℕ, _-_}
+use Prim.Native.Nat.{ℕ, zero, suc, _-_}
 use lib.Dec.{eqb}
 use lib.IntN.{ℤ, pos, negsuc}
-use lib.ListN.{length, replicate}
+use lib.ListN.{length, replicate, take, drop}
 use Rattle.names.specs.Message.{messageNumber}
 use Rattle.names.specs.Path.{pathNumber}
 use Rattle.names.specs.Term.{termNumber}
@@ -130,3 +130,12 @@ unmappedRow u = pos (parentNumber (u .parent)) ∷ placeCells (u .name)
 unfoldable pub rowsOf : {A : Type 0} → (A → List ℤ) → List A → List ℤ
 rowsOf row [] = []
 rowsOf row (a ∷ l) = row a ++ rowsOf row l
+
+-- a list into which rows were put: the rows, then what it held after that many numbers
+abbrev pub rowsThen : List ℤ → List ℤ → List ℤ
+rowsThen rows before = rows ++ drop (length rows) before
+
+-- the first n rows of a list, each w numbers wide
+unfoldable pub cutRows : ℕ → ℕ → List ℤ → List (List ℤ)
+cutRows w zero l = []
+cutRows w (suc n) l = take w l ∷ cutRows w n (drop w l)

@@ -103,3 +103,7 @@ resultOf (read r) =
       entries = rowsOf entryRow (r .entries);
       unmapped = rowsOf unmappedRow (r .unmapped);
     }
+
+-- the answer as one row: refusal number, record, counts of held rows, entries and unmapped rows, the terms
+unfoldable pub answerRow : Result → List ℤ
+answerRow r = pos (r .number) ∷ pos (r .place) ∷ pos (r .heldCount) ∷ pos (r .entryCount) ∷ pos (r .unmappedCount) ∷ termsRow (r .terms)
