@@ -1,0 +1,133 @@
+use borrow.Author.Needs.{needs}
+use mathlib.Core.Path.{refl}
+use Rattle.report.proofs.Cells.{as-row, cell}
+use Rattle.rulzhamm.proofs.groups_row.put_totals.Statement.{statement}
+use Rattle.rulzhamm.proofs.groups_row.put_totals.Tie as tie
+use Rattle.rulzhamm.proofs.groups_row.put_totals.Reads as reads
+use Rattle.rulzhamm.proofs.groups_row.put_totals.Lts as lts
+use Rattle.amount.proofs.amount.InvoiceAmount.to_minor_units.Reads as to-minor-units-reads
+use Rattle.report.proofs.put_row.Reads as put-row-reads
+use Rattle.report.proofs.amount_hundredths.Reads as amount-hundredths-reads
+use Rattle.report.proofs.amount_present.Reads as amount-present-reads
+
+-- src/groups_row.rt:133:9
+to-minor-units-requires : tie.Need-to-minor-units-requires
+to-minor-units-requires c κs = search needs
+
+-- src/groups_row.rt:134:9
+amount-present-requires : tie.Need-amount-present-requires
+amount-present-requires c κs = search needs
+
+-- src/groups_row.rt:135:9
+amount-hundredths-requires : tie.Need-amount-hundredths-requires
+amount-hundredths-requires c κs = search needs
+
+-- src/groups_row.rt:136:9
+amount-present-requires-2 : tie.Need-amount-present-requires-2
+amount-present-requires-2 c κs = search needs
+
+-- src/groups_row.rt:137:9
+amount-hundredths-requires-2 : tie.Need-amount-hundredths-requires-2
+amount-hundredths-requires-2 c κs = search needs
+
+-- src/groups_row.rt:138:9
+to-minor-units-requires-2 : tie.Need-to-minor-units-requires-2
+to-minor-units-requires-2 c κs = search needs
+
+-- src/groups_row.rt:139:9
+amount-present-requires-3 : tie.Need-amount-present-requires-3
+amount-present-requires-3 c κs = search needs
+
+-- src/groups_row.rt:140:9
+amount-hundredths-requires-3 : tie.Need-amount-hundredths-requires-3
+amount-hundredths-requires-3 c κs = search needs
+
+-- src/groups_row.rt:141:9
+amount-present-requires-4 : tie.Need-amount-present-requires-4
+amount-present-requires-4 c κs = search needs
+
+-- src/groups_row.rt:142:9
+amount-hundredths-requires-4 : tie.Need-amount-hundredths-requires-4
+amount-hundredths-requires-4 c κs = search needs
+
+-- src/groups_row.rt:143:9
+to-minor-units-requires-3 : tie.Need-to-minor-units-requires-3
+to-minor-units-requires-3 c κs = search needs
+
+-- src/groups_row.rt:144:9
+amount-present-requires-5 : tie.Need-amount-present-requires-5
+amount-present-requires-5 c κs = search needs
+
+-- src/groups_row.rt:145:9
+amount-hundredths-requires-5 : tie.Need-amount-hundredths-requires-5
+amount-hundredths-requires-5 c κs = search needs
+
+-- src/groups_row.rt:146:9
+amount-present-requires-6 : tie.Need-amount-present-requires-6
+amount-present-requires-6 c κs = search needs
+
+-- src/groups_row.rt:147:9
+amount-hundredths-requires-6 : tie.Need-amount-hundredths-requires-6
+amount-hundredths-requires-6 c κs = search needs
+
+-- src/groups_row.rt:148:9
+to-minor-units-requires-4 : tie.Need-to-minor-units-requires-4
+to-minor-units-requires-4 c κs = search needs
+
+-- src/groups_row.rt:150:22
+slice-aggregate-put-row : tie.Need-slice-aggregate-put-row
+slice-aggregate-put-row c = search needs
+
+-- src/groups_row.rt:150:5
+put-row-requires : tie.Need-put-row-requires
+put-row-requires c κs = search needs
+
+-- src/groups_row.rt:118:1
+same-length : tie.Need-same-length
+same-length c = search needs
+
+-- src/groups_row.rt:118:1
+returns : tie.Need-returns
+returns c =
+    let p16 = c .before .before .before .before in
+    let p15 = p16 .before in
+    let p14 = p15 .before in
+    let p13 = p14 .before in
+    let p12 = p13 .before in
+    let p11 = p12 .before in
+    let p10 = p11 .before in
+    let p9 = p10 .before in
+    let p8 = p9 .before in
+    let p7 = p8 .before in
+    let p6 = p7 .before in
+    let p5 = p6 .before in
+    let p4 = p5 .before in
+    let p3 = p4 .before in
+    let p2 = p3 .before in
+    let p1 = p2 .before in
+    as-row _ _ (cell (p1 .to-minor-units .ok) (p1 .to-minor-units .ensures) (cell (p2 .amount-present .ok) (p2 .amount-present .ensures) (cell (p3 .amount-hundredths .ok) (p3 .amount-hundredths .ensures) (cell (p4 .amount-present2 .ok) (p4 .amount-present2 .ensures) (cell (p5 .amount-hundredths2 .ok) (p5 .amount-hundredths2 .ensures) (cell (p6 .to-minor-units2 .ok) (p6 .to-minor-units2 .ensures) (cell (p7 .amount-present3 .ok) (p7 .amount-present3 .ensures) (cell (p8 .amount-hundredths3 .ok) (p8 .amount-hundredths3 .ensures) (cell (p9 .amount-present4 .ok) (p9 .amount-present4 .ensures) (cell (p10 .amount-hundredths4 .ok) (p10 .amount-hundredths4 .ensures) (cell (p11 .to-minor-units3 .ok) (p11 .to-minor-units3 .ensures) (cell (p12 .amount-present5 .ok) (p12 .amount-present5 .ensures) (cell (p13 .amount-hundredths5 .ok) (p13 .amount-hundredths5 .ensures) (cell (p14 .amount-present6 .ok) (p14 .amount-present6 .ensures) (cell (p15 .amount-hundredths6 .ok) (p15 .amount-hundredths6 .ensures) (cell (p16 .to-minor-units4 .ok) (p16 .to-minor-units4 .ensures) refl)))))))))))))))) (c .before .put-row .ensures)
+
+pub put-totals-spec : {M : Type 1} → statement M
+put-totals-spec =
+    tie.close
+    (tie.spec
+    to-minor-units-requires
+    amount-present-requires
+    amount-hundredths-requires
+    amount-present-requires-2
+    amount-hundredths-requires-2
+    to-minor-units-requires-2
+    amount-present-requires-3
+    amount-hundredths-requires-3
+    amount-present-requires-4
+    amount-hundredths-requires-4
+    to-minor-units-requires-3
+    amount-present-requires-5
+    amount-hundredths-requires-5
+    amount-present-requires-6
+    amount-hundredths-requires-6
+    to-minor-units-requires-4
+    slice-aggregate-put-row
+    put-row-requires
+    same-length
+    returns)
