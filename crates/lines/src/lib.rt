@@ -4,9 +4,11 @@
 // Every function puts bytes from a place on, each where there is room, and answers where the next go. It
 // takes all numbers and lists of any length, so no public function has a `requires`. The crate assumes
 // nothing of its own.
+mod column;
 mod list;
 mod number;
 
+pub use column::put_printable;
 pub use list::put_bytes;
 pub use number::put_decimal;
 pub use number::put_signed;

@@ -26,6 +26,16 @@ pub(crate) fn size(z: i64) -> u64
     z as u64
 }
 
+// A signed number where none below 0 has a meaning: such a one counts as 0.
+pub(crate) fn natural(z: i64) -> usize
+    ensures { λ r. ⌜ r ≡ decimal.natural z ⌝ }
+{
+    if z < 0 {
+        return 0;
+    }
+    z as usize
+}
+
 // Puts a signed number's digits, behind a minus sign where it is below 0, and answers where the next
 // bytes go.
 pub fn put_signed(out: &mut [u8], at: usize, z: i64) -> usize
