@@ -1,13 +1,12 @@
 -- Laws of numbers in decimal digits.
-use mathlib.Core.Path.{_≡_, refl, sym, ap, _∙_}
+use mathlib.Core.Path.{_≡_, refl, _∙_}
 use mathlib.Core.Bool.{Bool, true, false}
-use mathlib.Core.List.{List, [], _∷_, _++_}
+use mathlib.Core.List.{[], _∷_, _++_}
 use Prim.Native.Nat.{ℕ, zero, suc, _+_, _-_, _*_, _/_, _%_, _^_, _≤_, _<_}
 use native.Mathlib.Omega.{arith}
 use native.Mathlib.Nat.{pow-succ', one-le-pow}
 use borrow.Author.Tests.{lt-ltb, le-ltb, ltb-true, ltb-false}
 use lib.Dec.{ltb}
-use lib.ListN.{length, length-append}
 use Rattle.io.specs.Digits.{digits, Fewest}
 use Rattle.text.specs.Digits.{number}
 use Rattle.text.proofs.Digits.{number-append}
@@ -15,11 +14,11 @@ use Rattle.lines.specs.Decimal.{spelled, decimal}
 
 -- one digit, and more
 module _ (f n : ℕ) where
-  spelled-one : n < 10 → spelled (suc f) n ≡ (0x30 + n) ∷ []
+  pub spelled-one : n < 10 → spelled (suc f) n ≡ (0x30 + n) ∷ []
   unfolding spelled
   spelled-one h = rw (lt-ltb n 10 h)
 
-  spelled-more : 10 ≤ n → spelled (suc f) n ≡ spelled f (n / 10) ++ ((0x30 + n % 10) ∷ [])
+  pub spelled-more : 10 ≤ n → spelled (suc f) n ≡ spelled f (n / 10) ++ ((0x30 + n % 10) ∷ [])
   unfolding spelled
   spelled-more h = rw (le-ltb n 10 h)
 

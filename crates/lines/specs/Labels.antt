@@ -1,17 +1,15 @@
 -- Paths and terms as the Rust prints them, by their numbers (document 01, "Rows": Entry, Unmapped).
 use mathlib.Core.Bool.{cond}
-use mathlib.Core.List.{List, [], _∷_, _++_}
+use mathlib.Core.List.{List, [], _++_}
 use mathlib.Core.Option.{Option, none, some}
 use Prim.Native.Nat.{ℕ}
 use lib.Dec.{eqb}
 use lib.IntN.{ℤ, pos, negsuc}
 use lib.ListN.{length}
 use Rattle.text.specs.Utf8.{bytes}
-use Rattle.text.specs.Span.{clipped}
 use Rattle.labels.specs.TermName.{termGroupAt, termNameAt}
 use Rattle.labels.specs.ParentName.{parentNameAt}
-use Rattle.lines.specs.Decimal.{decimal, natural}
-use Rattle.lines.specs.Line.{printable}
+use Rattle.lines.specs.Decimal.{decimal}
 
 -- a group's index in brackets, nothing where it has none (-1)
 unfoldable pub bracketed : ℤ → List ℕ
@@ -33,7 +31,3 @@ termShown n index = cond (eqb n 0) none (some (termText (termGroupAt n) index (t
 -- an unmapped element's parent and its name, parted by a slash
 unfoldable pub unmappedPath : ℕ → List ℕ → List ℕ
 unmappedPath parent name = parentNameAt parent ++ bytes "/" ++ name
-
--- the name's bytes in the text, a number below 0 being as good as 0
-unfoldable pub nameShown : List ℕ → ℤ → ℤ → List ℕ
-nameShown x start len = printable (clipped x (natural start) (natural len))
