@@ -13,6 +13,7 @@ use mir.Syntax.{w64}
 use mir.Val.{SFits}
 use mir.Facts.{toZ-ofZ}
 use Rattle.text.specs.Utf8.{bytes, encode}
+use Rattle.text.specs.Span.{clipped}
 use Rattle.labels.specs.Wrote.{Wrote}
 use Rattle.labels.specs.PathText.{pathTextAt}
 use Rattle.labels.specs.TermName.{termGroupAt, termNameAt}
@@ -20,9 +21,8 @@ use Rattle.labels.specs.ParentName.{parentNameAt}
 use Rattle.report.specs.Placed.{behind, Placed}
 use Rattle.report.proofs.Placing.{placed-none, placed-then}
 use Rattle.lines.specs.Decimal.{decimal, natural}
-use Rattle.lines.specs.Line.{field}
-use Rattle.lines.specs.Columns.{textShown}
-use Rattle.lines.specs.Labels.{bracketed, groupText, termText, termShown, unmappedPath}
+use Rattle.lines.specs.Line.{printable, field}
+use Rattle.lines.specs.Labels.{bracketed, groupText, termText, termShown, unmappedPath, nameShown}
 use Rattle.lines.proofs.Putting.{placed-wrote, placed-as}
 use Rattle.lines.proofs.Signs.{held, below, above}
 
@@ -74,7 +74,9 @@ module _ {a b : ℤ} (f : SFits w64 a) (g : SFits w64 b) {k : ℕ} (e : k ≡ na
 
 -- an unmapped element's path
 pub unmapped-put :
-    {p a b : ℤ} → SFits w64 p → SFits w64 a → SFits w64 b → (x : List ℕ) {l m n o q : List ℕ} {at i j u r k w : ℕ} → Placed l at (0x9 ∷ []) m i → k ≡ natural (held p) → Wrote m i (parentNameAt k) n w →
-    j ≡ behind (length n) i w → Placed n j (0x2F ∷ []) o u → Placed o u (field (textShown x (held a) (held b))) q r → Placed l at (0x9 ∷ unmappedPath (natural p) (field (textShown x a b))) q r
-unfolding unmappedPath bytes encode
-unmapped-put f g h x d c y v z name = rw (← natural-held f c) (placed-then (placed-then (placed-then d (placed-wrote y v)) z) (rw (toZ-ofZ g, toZ-ofZ h) at name))
+    {p a b : ℤ} → SFits w64 p → SFits w64 a → SFits w64 b → (x : List ℕ) {t l m n o q : List ℕ} {at i j u r k w s e : ℕ} → Placed l at (0x9 ∷ []) m i → k ≡ natural (held p) → Wrote m i (parentNameAt k) n w →
+    j ≡ behind (length n) i w → Placed n j (0x2F ∷ []) o u → s ≡ natural (held a) → e ≡ natural (held b) → t ≡ clipped x s e → Placed o u (printable t) q r →
+    Placed l at (0x9 ∷ unmappedPath (natural p) (nameShown x a b)) q r
+unfolding unmappedPath nameShown bytes encode
+unmapped-put f g h x d c y v z start end cut name =
+    rw (← natural-held f c, ← natural-held g start, ← natural-held h end, ← cut) (placed-then (placed-then (placed-then d (placed-wrote y v)) z) name)

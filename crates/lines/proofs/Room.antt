@@ -27,7 +27,7 @@ use Rattle.labels.specs.ParentName.{parentName, parentNameAt}
 use Rattle.lines.specs.Decimal.{spelled, decimal, signed, natural}
 use Rattle.lines.specs.Line.{printed, printable, field, percentage, tabbed}
 use Rattle.lines.specs.Columns.{Column, width, textShown, amountShown, percentShown, dateShown, shown, fields}
-use Rattle.lines.specs.Labels.{bracketed, groupText, termText, termShown, unmappedPath}
+use Rattle.lines.specs.Labels.{bracketed, groupText, termText, termShown, unmappedPath, nameShown}
 use Rattle.lines.proofs.Spelling.{spelled-one, spelled-more}
 
 -- a number below 10 ^ k has at most k digits
@@ -161,7 +161,8 @@ term-length n z h = go (eqb n 0)
     go true = omega arith
     go false = rw (length-append (groupText (termGroupAt n) z) (termNameAt n)) (omega (arith, name-length n, group (eqb (length (termGroupAt n)) 0)))
 
-pub unmapped-length : (x : List ℕ) (p : ℕ) (a b : ℤ) → length (unmappedPath p (field (textShown x a b))) ≤ length x + 49
-unfolding unmappedPath bytes encode
+pub unmapped-length : (x : List ℕ) (p : ℕ) (a b : ℤ) → length (unmappedPath p (nameShown x a b)) ≤ length x + 48
+unfolding unmappedPath nameShown bytes encode
 unmapped-length x p a b =
-    rw (length-append (parentNameAt p ++ bytes "/") (field (textShown x a b)), length-append (parentNameAt p) (bytes "/")) (omega (arith, parent-length p, text-length x a b))
+    let s = clipped x (natural a) (natural b) in
+    rw (length-append (parentNameAt p ++ bytes "/") (printable s), length-append (parentNameAt p) (bytes "/"), printable-length s) (omega (arith, parent-length p, clipped-length x (natural a) (natural b)))

@@ -7,9 +7,11 @@ use lib.Dec.{eqb}
 use lib.IntN.{ℤ, pos, negsuc}
 use lib.ListN.{length}
 use Rattle.text.specs.Utf8.{bytes}
+use Rattle.text.specs.Span.{clipped}
 use Rattle.labels.specs.TermName.{termGroupAt, termNameAt}
 use Rattle.labels.specs.ParentName.{parentNameAt}
-use Rattle.lines.specs.Decimal.{decimal}
+use Rattle.lines.specs.Decimal.{decimal, natural}
+use Rattle.lines.specs.Line.{printable}
 
 -- a group's index in brackets, nothing where it has none (-1)
 unfoldable pub bracketed : ℤ → List ℕ
@@ -31,3 +33,7 @@ termShown n index = cond (eqb n 0) none (some (termText (termGroupAt n) index (t
 -- an unmapped element's parent and its name, parted by a slash
 unfoldable pub unmappedPath : ℕ → List ℕ → List ℕ
 unmappedPath parent name = parentNameAt parent ++ bytes "/" ++ name
+
+-- the name's bytes in the text, a number below 0 being as good as 0
+unfoldable pub nameShown : List ℕ → ℤ → ℤ → List ℕ
+nameShown x start len = printable (clipped x (natural start) (natural len))

@@ -34,13 +34,7 @@ pub fn put_printable(out: &mut [u8], at: usize, s: &[u8]) -> usize
 }
 
 // Puts the bytes of a text at a place, and answers where the next go.
-pub(crate) fn put_text_column(
-    out: &mut [u8],
-    at: usize,
-    text: &[u8],
-    start: i64,
-    length: i64,
-) -> usize
+fn put_text_column(out: &mut [u8], at: usize, text: &[u8], start: i64, length: i64) -> usize
     ensures { λ r. ⌜ Placed (now (out .entry)) at (field (textShown (now (text .entry)) start length)) (now (out .exit)) r ⌝ }
 {
     if start < 0 {

@@ -5,9 +5,8 @@ ghost use Rattle.labels.specs.TermName.{termGroupAt, termNameAt};
 ghost use Rattle.report.specs.Placed.{Placed};
 ghost use Rattle.lines.specs.Decimal as decimal;
 ghost use Rattle.lines.specs.Line.{field};
-ghost use Rattle.lines.specs.Columns.{textShown};
-ghost use Rattle.lines.specs.Labels.{bracketed, groupText, termText, termShown, unmappedPath};
-use crate::column::put_text_column;
+ghost use Rattle.lines.specs.Labels.{bracketed, groupText, termText, termShown, unmappedPath, nameShown};
+use crate::column::put_printable;
 use crate::list::put_byte;
 use crate::number::natural;
 use crate::number::put_decimal;
@@ -82,11 +81,11 @@ pub fn put_unmapped_field(
     start: i64,
     length: i64,
 ) -> usize
-    ensures { λ r. ⌜ Placed (now (out .entry)) at (0x9 ∷ unmappedPath (decimal.natural parent) (field (textShown (now (text .entry)) start length))) (now (out .exit)) r ⌝ }
+    ensures { λ r. ⌜ Placed (now (out .entry)) at (0x9 ∷ unmappedPath (decimal.natural parent) (nameShown (now (text .entry)) start length)) (now (out .exit)) r ⌝ }
 {
     let next = put_byte(out, at, b'\t');
     let n = labels::put_parent_name(out, next, natural(parent));
     let slash = report::behind(out.len(), next, n);
     let name = put_byte(out, slash, b'/');
-    put_text_column(out, name, text, start, length)
+    put_printable(out, name, text::clip(text, natural(start), natural(length)))
 }
