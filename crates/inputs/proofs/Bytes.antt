@@ -1,0 +1,83 @@
+-- The bytes of an input at a place, and the loop that finds where a field ends.
+use mathlib.Core.Path.{_≡_, refl, sym, ap, _∙_}
+use mathlib.Core.Bool.{Bool, true, false}
+use mathlib.Core.List.{List, [], _∷_}
+use Prim.Native.Nat.{ℕ, suc, _+_, _-_, _≤_, _<_}
+use native.Mathlib.Omega.{arith}
+use native.Mathlib.Numerals.{add-one}
+use lib.Dec.{eqb}
+use lib.ListN.{length, getD, take, drop, drop-of-length-le, List·getD-eq-default}
+use lib.Seq.{drop-cons}
+use Rattle.text.specs.declared.span.Span.{Span}
+use Rattle.text.specs.Span.{cut, clipped}
+use Rattle.text.specs.Order.{equal}
+use Rattle.inputs.specs.Line.{filled, orNone}
+use Rattle.inputs.specs.Places.{mark, word, fieldAt, closing}
+
+module _ (s : List ℕ) (p : Span) where
+  pub cut-turned : p .end < p .start → [] ≡ cut p s
+  unfolding cut
+  cut-turned h = let z : p .end - p .start ≡ 0 = omega arith in rw z
+
+  pub cut-clipped : {b : List ℕ} → b ≡ clipped s (p .start) (p .end - p .start) → b ≡ cut p s
+  unfolding cut clipped
+  cut-clipped e = e
+
+  pub cut-filled : {b : List ℕ} → b ≡ cut p s → {t : Bool} → t ≡ filled b → t ≡ filled (cut p s)
+  cut-filled e f = f ∙ ap filled e
+
+-- a currency or an identifier
+module _ (s : List ℕ) (p : Span) {b : List ℕ} (e : b ≡ cut p s) {t : Bool} (q : t ≡ equal b (0x2D ∷ [])) where
+  pub name-none : t ≡ true → (i : ℕ) → cut (record { start = i; end = i }) s ≡ orNone (cut p s)
+  unfolding cut orNone
+  name-none y i =
+      let z : i - i ≡ 0 = omega arith in
+      rw (z, ← e, ← q, y)
+
+  pub name-some : t ≡ false → cut p s ≡ orNone (cut p s)
+  unfolding orNone
+  name-some n = rw (← e, ← q, n)
+
+-- the bytes from i on
+module _ (s : List ℕ) (i : ℕ) where
+  pub no-space : length s ≤ i → false ≡ eqb (getD s i 0) 0x20
+  no-space h = rw (List·getD-eq-default s 0 h)
+
+  pub closing-past : length s ≤ i → true ≡ closing (drop i s)
+  unfolding closing
+  closing-past h = rw (drop-of-length-le s h)
+
+  pub closing-more : i < length s → (length s - i ≡ 1 → ⊥) → false ≡ closing (drop i s)
+  unfolding closing
+  closing-more h n = rw (drop-cons s i 0 h, drop-cons s (suc i) 0 (omega arith))
+
+  pub closing-last : i < length s → length s - i ≡ 1 → eqb (getD s i 0) 0x0A ≡ closing (drop i s)
+  unfolding closing
+  closing-last h n =
+      let e : drop (suc i) s ≡ [] = drop-of-length-le s {i = suc i} (omega arith) in
+      rw (drop-cons s i 0 h, e)
+
+-- the field that begins at start ends where the one from i on does
+pub record Passing (s : List ℕ) (start i : ℕ) : Type 0 where
+  pub ends : start + length (word (drop start s)) ≡ i + length (word (drop i s))
+
+pub passing-start : (s : List ℕ) (start : ℕ) → Passing s start start
+passing-start s start = record { ends = refl }
+
+module _ (s : List ℕ) (start i : ℕ) (f : Passing s start i) where
+  field-is : length (word (drop i s)) ≡ 0 → record { start = start; end = i } ≡ fieldAt s start
+  unfolding fieldAt
+  field-is e = let z : i ≡ start + length (word (drop start s)) = omega (arith, f .ends) in ap (λ (x : ℕ). record { start = start; end = x }) z
+
+  pub field-past : length s ≤ i → record { start = start; end = i } ≡ fieldAt s start
+  unfolding word
+  field-past h = field-is (rw (drop-of-length-le s h))
+
+  module _ (h : i < length s) {b : Bool} (q : b ≡ mark (getD s i 0)) where
+    pub field-here : b ≡ true → record { start = start; end = i } ≡ fieldAt s start
+    unfolding word
+    field-here t = field-is (rw (drop-cons s i 0 h, ← q, t))
+
+    pub field-turn : b ≡ false → Passing s start (i + 1)
+    unfolding word
+    field-turn t = record { ends = f .ends ∙ rw (add-one, drop-cons s i 0 h, ← q, t) (omega arith) }

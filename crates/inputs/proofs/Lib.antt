@@ -1,0 +1,6 @@
+pub mod Bytes
+pub mod Numbers
+pub mod Numerals
+pub mod Parting
+pub mod Lines
+pub mod Fitness
