@@ -1,18 +1,19 @@
 -- The bytes of an input at a place, and the loop that finds where a field ends.
-use mathlib.Core.Path.{_≡_, refl, sym, ap, _∙_}
+use mathlib.Core.Path.{_≡_, refl, ap, _∙_}
 use mathlib.Core.Bool.{Bool, true, false}
 use mathlib.Core.List.{List, [], _∷_}
 use Prim.Native.Nat.{ℕ, suc, _+_, _-_, _≤_, _<_}
 use native.Mathlib.Omega.{arith}
 use native.Mathlib.Numerals.{add-one}
 use lib.Dec.{eqb}
-use lib.ListN.{length, getD, take, drop, drop-of-length-le, List·getD-eq-default}
+use lib.ListN.{length, getD, drop, drop-of-length-le, List·getD-eq-default}
 use lib.Seq.{drop-cons}
 use Rattle.text.specs.declared.span.Span.{Span}
 use Rattle.text.specs.Span.{cut, clipped}
 use Rattle.text.specs.Order.{equal}
-use Rattle.inputs.specs.Line.{filled, orNone}
-use Rattle.inputs.specs.Places.{mark, word, fieldAt, closing}
+use Rattle.inputs.specs.Line.{orNone}
+use Rattle.inputs.specs.Places.{word, fieldAt, closing}
+use Rattle.inputs.specs.Spelling.{mark}
 
 module _ (s : List ℕ) (p : Span) where
   pub cut-turned : p .end < p .start → [] ≡ cut p s
@@ -22,9 +23,6 @@ module _ (s : List ℕ) (p : Span) where
   pub cut-clipped : {b : List ℕ} → b ≡ clipped s (p .start) (p .end - p .start) → b ≡ cut p s
   unfolding cut clipped
   cut-clipped e = e
-
-  pub cut-filled : {b : List ℕ} → b ≡ cut p s → {t : Bool} → t ≡ filled b → t ≡ filled (cut p s)
-  cut-filled e f = f ∙ ap filled e
 
 -- a currency or an identifier
 module _ (s : List ℕ) (p : Span) {b : List ℕ} (e : b ≡ cut p s) {t : Bool} (q : t ≡ equal b (0x2D ∷ [])) where

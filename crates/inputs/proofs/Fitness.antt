@@ -1,14 +1,13 @@
--- What record file, text and input line give: each test of the code, and the worked examples.
-use mathlib.Core.Path.{_≡_, refl, ap, _∙_}
-use mathlib.Core.List.{List, [], _∷_}
-use mathlib.Core.Option.{Option, none, some, Option·map}
+-- What record file, text and input line give, by the tests of the code.
+use mathlib.Core.Path.{_≡_}
+use mathlib.Core.List.{List}
 use Prim.Native.Nat.{ℕ, _%_, _≤_, _<_}
 use borrow.Author.Tests.{le-leb, lt-leb, eq-eqb, ne-eqb}
 use lib.ListN.{length}
 use Rattle.inputs.specs.declared.fields.Line.{Line}
 use Rattle.inputs.specs.declared.fields.Line.the-variants.{Unfit}
-use Rattle.inputs.specs.Line.{Content, lineOf}
-use Rattle.inputs.specs.Given.{numbersOf, recordFile, inputOf}
+use Rattle.inputs.specs.Line.{lineOf}
+use Rattle.inputs.specs.Given.{recordFile, inputOf}
 use Rattle.inputs.specs.Places.{lineAt, givenBy}
 
 module _ (records text input : List ℕ) where

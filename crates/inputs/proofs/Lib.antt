@@ -4,3 +4,5 @@ pub mod Numerals
 pub mod Parting
 pub mod Lines
 pub mod Fitness
+pub mod Spellings
+pub mod Examples

@@ -1,14 +1,19 @@
 -- Laws of the numbers of a record file, and the loop that puts them.
 use mathlib.Core.Path.{_≡_, refl, sym, ap, _∙_}
+use mathlib.Core.Bool.{true}
 use mathlib.Core.List.{List, [], _∷_}
-use Prim.Native.Nat.{ℕ, zero, suc, _+_, _*_, _/_, _≤_, _<_}
+use Prim.Native.Nat.{ℕ, suc, _+_, _*_, _/_, _%_, _^_, _≤_, _<_}
 use native.Mathlib.Omega.{arith}
 use native.Mathlib.Numerals.{add-one}
+use borrow.Author.Tests.{ltb-true}
+use lib.Dec.{ltb}
 use lib.ListN.{length, getD, drop, set, length-drop, length-set}
 use lib.Seq.{drop-cons}
+use Rattle.text.proofs.Bools.{both}
 use Rattle.names.specs.Put.{put}
 use Rattle.inputs.specs.Given.{littleEndian, numbersOf}
 use Rattle.inputs.specs.Places.{Listed}
+use Rattle.inputs.specs.Spelling.{allFit, recordBytes}
 
 -- a number for each four bytes
 pub numbers-length : (s : List ℕ) → length (numbersOf s) ≡ length s / 4
@@ -37,6 +42,15 @@ numbers-next s i h =
     let three : i + 3 ≡ suc (suc (suc i)) = omega arith in
     let four : i + 4 ≡ suc (suc (suc (suc i))) = omega arith in
     rw (one, two, three, four, drop-cons s i 0 (omega arith), drop-cons s (suc i) 0 (omega arith), drop-cons s (suc (suc i)) 0 (omega arith), drop-cons s (suc (suc (suc i))) 0 (omega arith))
+
+-- the numbers of a record file are those that were written
+byte-join : (n : ℕ) → n < 2 ^ 32 → littleEndian (n % 256) (n / 256 % 256) (n / 65536 % 256) (n / 16777216) ≡ n
+byte-join n h = omega arith
+
+pub numbers-written : (ns : List ℕ) → allFit ns ≡ true → numbersOf (recordBytes ns) ≡ ns
+unfolding numbersOf recordBytes allFit
+numbers-written [] e = refl
+numbers-written (n ∷ ns) e = let d = both (ltb n (2 ^ 32)) (allFit ns) e in rw (byte-join n (ltb-true n (2 ^ 32) (d .0)), numbers-written ns (d .1))
 
 -- k numbers stand in l, and those of the bytes from there on are still to be put
 pub record Putting (s l₀ l : List ℕ) (k : ℕ) : Type 0 where

@@ -1,19 +1,20 @@
 -- The fields of an input, one after the other.
 use mathlib.Core.Path.{_≡_, refl, sym, ap, subst, _∙_}
-use mathlib.Core.Bool.{Bool, true, false, cond, _&&_, _||_}
+use mathlib.Core.Bool.{Bool, true, false, cond, _||_}
 use mathlib.Core.List.{List, [], _∷_}
 use mathlib.Core.Option.{Option, none, some, Option·map}
 use mathlib.Core.Logic.{_⊎_, inl, inr}
-use Prim.Native.Nat.{ℕ, zero, suc, _+_, _-_, _≤_, _<_}
+use Prim.Native.Nat.{ℕ, suc, _+_, _-_}
 use native.Mathlib.Omega.{arith}
 use borrow.Author.Tests.{eqb-true}
-use lib.Dec.{eqb, leb}
+use lib.Dec.{eqb}
 use lib.ListN.{length, getD, take, drop}
 use lib.Seq.{getD-drop, drop-drop}
 use Rattle.text.specs.declared.span.Span.{Span}
 use Rattle.text.specs.Span.{cut}
 use Rattle.inputs.specs.Line.{ahead, split, oneLine, parted}
-use Rattle.inputs.specs.Places.{mark, word, fieldAt, closing}
+use Rattle.inputs.specs.Places.{word, fieldAt, closing}
+use Rattle.inputs.specs.Spelling.{mark}
 
 -- a byte at the front of a line
 line-ahead : (b : ℕ) (ls : List (List ℕ)) → oneLine (ahead b ls) ≡ Option·map (λ (l : List ℕ). b ∷ l) (oneLine ls)
@@ -36,19 +37,19 @@ split-other b e none = refl
 split-other b e (some l) = rw e
 
 -- what the first byte of an input does to its fields
-parted-empty : parted [] ≡ some ([] ∷ [])
+pub parted-empty : parted [] ≡ some ([] ∷ [])
 unfolding parted oneLine split
 parted-empty = refl
 
-parted-space : (s : List ℕ) → parted (0x20 ∷ s) ≡ Option·map (λ (fs : List (List ℕ)). [] ∷ fs) (parted s)
+pub parted-space : (s : List ℕ) → parted (0x20 ∷ s) ≡ Option·map (λ (fs : List (List ℕ)). [] ∷ fs) (parted s)
 unfolding parted split
 parted-space s = rw (line-ahead 0x20 (split 0x0A s)) (split-space (oneLine (split 0x0A s)))
 
-parted-other : (b : ℕ) (s : List ℕ) → eqb b 0x20 ≡ false → eqb b 0x0A ≡ false → parted (b ∷ s) ≡ Option·map (ahead b) (parted s)
+pub parted-other : (b : ℕ) (s : List ℕ) → eqb b 0x20 ≡ false → eqb b 0x0A ≡ false → parted (b ∷ s) ≡ Option·map (ahead b) (parted s)
 unfolding parted split
 parted-other b s e f = rw (f, line-ahead b (split 0x0A s)) (split-other b e (oneLine (split 0x0A s)))
 
-parted-feed : parted (0x0A ∷ []) ≡ some ([] ∷ [])
+pub parted-feed : parted (0x0A ∷ []) ≡ some ([] ∷ [])
 unfolding parted oneLine split
 parted-feed = refl
 
@@ -61,7 +62,7 @@ split-some p (b ∷ s) = go (eqb b p) (split-some p s)
     go true r = ([], split p s, refl)
     go false r = (b ∷ r .0, r .1, ap (ahead b) (r .2))
 
-parted-after : (b : ℕ) (s : List ℕ) → parted (0x0A ∷ b ∷ s) ≡ none
+pub parted-after : (b : ℕ) (s : List ℕ) → parted (0x0A ∷ b ∷ s) ≡ none
 unfolding parted oneLine split ahead
 parted-after b s = go (eqb b 0x0A) (split-some 0x0A s)
   where
@@ -98,7 +99,7 @@ unfolding closing
 begins-space [] = spaced refl refl (parted-space [])
 begins-space (b ∷ s) = spaced refl refl (parted-space (b ∷ s))
 
-ahead-first : (b : ℕ) (w : List ℕ) (o : Option (List (List ℕ))) → Option·map (ahead b) (Option·map (λ (fs : List (List ℕ)). w ∷ fs) o) ≡ Option·map (λ (fs : List (List ℕ)). (b ∷ w) ∷ fs) o
+pub ahead-first : (b : ℕ) (w : List ℕ) (o : Option (List (List ℕ))) → Option·map (ahead b) (Option·map (λ (fs : List (List ℕ)). w ∷ fs) o) ≡ Option·map (λ (fs : List (List ℕ)). (b ∷ w) ∷ fs) o
 unfolding ahead
 ahead-first b w none = refl
 ahead-first b w (some fs) = refl

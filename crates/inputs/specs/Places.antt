@@ -1,6 +1,6 @@
 -- What the answers of the code say, and where the fields of an input stand.
 use mathlib.Core.Path.{_≡_}
-use mathlib.Core.Bool.{Bool, true, false, cond, _||_}
+use mathlib.Core.Bool.{Bool, true, false, cond}
 use mathlib.Core.List.{List, [], _∷_}
 use mathlib.Core.Option.{Option, none, some, Option·map}
 use Prim.Native.Nat.{ℕ, _+_}
@@ -12,6 +12,7 @@ use Rattle.text.specs.Span.{cut}
 use Rattle.names.specs.Put.{put}
 use Rattle.inputs.specs.Line.{Content, numeral}
 use Rattle.inputs.specs.Given.{Given, numbersOf}
+use Rattle.inputs.specs.Spelling.{mark}
 use Rattle.inputs.specs.declared.fields.Line.{Line}
 use Rattle.inputs.specs.declared.fields.Line.the-variants.{Unfit, Fit}
 use Rattle.inputs.specs.declared.numeral.Numeral as Code
@@ -38,11 +39,7 @@ pub record Listed (records l l′ : List ℕ) (r : ℕ) : Type 0 where
 unfoldable pub numeralOf : List ℕ → Code.Numeral
 numeralOf f = cond (numeral f) (Numeral.Number (number 0 f)) Numeral.Unfit
 
--- a space or a line feed
-unfoldable pub mark : ℕ → Bool
-mark b = eqb b 0x20 || eqb b 0x0A
-
--- the bytes before the first of these
+-- the bytes before the first space or line feed
 unfoldable pub word : List ℕ → List ℕ
 word [] = []
 word (b ∷ s) = cond (mark b) [] (b ∷ word s)

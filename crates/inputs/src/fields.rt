@@ -1,7 +1,6 @@
 // The input line: mode, rules, currency and identifier.
 ghost use mathlib.Core.Path.{_≡_};
 ghost use mathlib.Core.List.{[], _∷_};
-ghost use Rattle.text.specs.Order.{equal};
 ghost use Rattle.text.specs.Span.{cut};
 ghost use Rattle.inputs.specs.Line.{lineOf, fieldsOf, orNone, filled};
 ghost use Rattle.inputs.specs.Places.{lineAt};

@@ -36,11 +36,8 @@ pub fn numbers_of(records: &[u8], table: &mut [u32]) -> usize
     let mut k = 0;
     while k < n {
         let i = k * 4;
-        store(
-            table,
-            k,
-            little_endian(records[i], records[i + 1], records[i + 2], records[i + 3]),
-        );
+        let number = little_endian(records[i], records[i + 1], records[i + 2], records[i + 3]);
+        store(table, k, number);
         k += 1;
     }
     n

@@ -3,7 +3,8 @@ ghost use mathlib.Core.Path.{_≡_};
 ghost use lib.Dec.{eqb};
 ghost use lib.ListN.{getD, drop};
 ghost use Rattle.text.specs.Span.{cut};
-ghost use Rattle.inputs.specs.Places.{mark, fieldAt, closing};
+ghost use Rattle.inputs.specs.Places.{fieldAt, closing};
+ghost use Rattle.inputs.specs.Spelling.{mark};
 use text::Span;
 
 // The bytes of s at a place: those that s has.

@@ -4,38 +4,11 @@ use borrow.Author.Needs.{needs}
 use Rattle.inputs.proofs.fields.fields_of.Statement.{statement}
 use Rattle.inputs.proofs.fields.fields_of.Tie as tie
 
-bytes-at-requires : tie.Need-bytes-at-requires
-bytes-at-requires c κs = search needs
-
-numeral-of-requires : tie.Need-numeral-of-requires
-numeral-of-requires c κs = search needs
-
-enum-known-mode-number : tie.Need-enum-known-mode-number
-enum-known-mode-number c = search needs
-
-enum-told : tie.Need-enum-told
-enum-told c = search needs
-
 returns : tie.Need-returns
 returns c = search mode-unfit
 
-bytes-at-requires-2 : tie.Need-bytes-at-requires-2
-bytes-at-requires-2 c κs = search needs
-
-numeral-of-requires-2 : tie.Need-numeral-of-requires-2
-numeral-of-requires-2 c κs = search needs
-
-enum-known-rules-number : tie.Need-enum-known-rules-number
-enum-known-rules-number c = search needs
-
-enum-told-2 : tie.Need-enum-told-2
-enum-told-2 c = search needs
-
 returns-2 : tie.Need-returns-2
 returns-2 c = search rules-unfit
-
-is-filled-requires : tie.Need-is-filled-requires
-is-filled-requires c κs = search needs
 
 returns-3 : tie.Need-returns-3
 returns-3 c =
@@ -48,9 +21,6 @@ returns-3 c =
     (r .rules-number .given .1)
     (c .before .is-filled .ensures)
     (not-true _ (c .if1 .taken))
-
-is-filled-requires-2 : tie.Need-is-filled-requires-2
-is-filled-requires-2 c κs = search needs
 
 returns-4 : tie.Need-returns-4
 returns-4 c =
@@ -65,12 +35,6 @@ returns-4 c =
     (not-false _ (c .before .before .if1 .left))
     (c .before .is-filled2 .ensures)
     (not-true _ (c .if2 .taken))
-
-name-at-requires : tie.Need-name-at-requires
-name-at-requires c κs = search needs
-
-name-at-requires-2 : tie.Need-name-at-requires-2
-name-at-requires-2 c κs = search needs
 
 returns-5 : tie.Need-returns-5
 returns-5 c =
@@ -92,20 +56,20 @@ pub fields-of-spec : {M : Type 1} → statement M
 fields-of-spec =
     tie.close
     (tie.spec
-    bytes-at-requires
-    numeral-of-requires
-    enum-known-mode-number
-    enum-told
+    (λ c κs. search needs)
+    (λ c κs. search needs)
+    (λ c. search needs)
+    (λ c. search needs)
     returns
-    bytes-at-requires-2
-    numeral-of-requires-2
-    enum-known-rules-number
-    enum-told-2
+    (λ c κs. search needs)
+    (λ c κs. search needs)
+    (λ c. search needs)
+    (λ c. search needs)
     returns-2
-    is-filled-requires
+    (λ c κs. search needs)
     returns-3
-    is-filled-requires-2
+    (λ c κs. search needs)
     returns-4
-    name-at-requires
-    name-at-requires-2
+    (λ c κs. search needs)
+    (λ c κs. search needs)
     returns-5)

@@ -8,12 +8,6 @@ use Rattle.inputs.proofs.fields.parse_line.Tie as tie
 returns : tie.Need-returns
 returns c = search long-line
 
-field-at-requires : tie.Need-field-at-requires
-field-at-requires c κs = search needs
-
-is-space-requires : tie.Need-is-space-requires
-is-space-requires c κs = search needs
-
 returns-2 : tie.Need-returns-2
 returns-2 c =
     one-field
@@ -25,12 +19,6 @@ add-field-at : tie.Need-add-field-at
 add-field-at c =
     let space = space-inside (c .before .before .before .before .before .before .args .input .now) (c .before .before .before .field-at .result .end) _ (c .before .before .is-space .ensures) (not-false _ (c .before .if2 .left)) in
     omega (arith, space)
-
-field-at-requires-2 : tie.Need-field-at-requires-2
-field-at-requires-2 c κs = search needs
-
-is-space-requires-2 : tie.Need-is-space-requires-2
-is-space-requires-2 c κs = search needs
 
 returns-3 : tie.Need-returns-3
 returns-3 c =
@@ -46,12 +34,6 @@ add-field-at-2 : tie.Need-add-field-at-2
 add-field-at-2 c =
     let space = space-inside (c .before .before .before .before .before .before .before .before .before .before .args .input .now) (c .before .before .before .field-at2 .result .end) _ (c .before .before .is-space2 .ensures) (not-false _ (c .before .if3 .left)) in
     omega (arith, space)
-
-field-at-requires-3 : tie.Need-field-at-requires-3
-field-at-requires-3 c κs = search needs
-
-is-space-requires-3 : tie.Need-is-space-requires-3
-is-space-requires-3 c κs = search needs
 
 returns-4 : tie.Need-returns-4
 returns-4 c =
@@ -71,12 +53,6 @@ add-field-at-3 c =
     let space = space-inside (c .before .before .before .before .before .before .before .before .before .before .before .before .before .before .args .input .now) (c .before .before .before .field-at3 .result .end) _ (c .before .before .is-space3 .ensures) (not-false _ (c .before .if4 .left)) in
     omega (arith, space)
 
-field-at-requires-4 : tie.Need-field-at-requires-4
-field-at-requires-4 c κs = search needs
-
-is-closing-requires : tie.Need-is-closing-requires
-is-closing-requires c κs = search needs
-
 returns-5 : tie.Need-returns-5
 returns-5 c =
     let d = c .before .before .before .before in
@@ -92,9 +68,6 @@ returns-5 c =
     (not-false _ (d .if4 .left))
     _ (c .before .before .field-at4 .ensures) _ (c .before .is-closing .ensures)
     (not-true _ (c .if5 .taken))
-
-fields-of-requires : tie.Need-fields-of-requires
-fields-of-requires c κs = search needs
 
 returns-6 : tie.Need-returns-6
 returns-6 c =
@@ -119,20 +92,20 @@ parse-line-spec =
     tie.close
     (tie.spec
     returns
-    field-at-requires
-    is-space-requires
+    (λ c κs. search needs)
+    (λ c κs. search needs)
     returns-2
     add-field-at
-    field-at-requires-2
-    is-space-requires-2
+    (λ c κs. search needs)
+    (λ c κs. search needs)
     returns-3
     add-field-at-2
-    field-at-requires-3
-    is-space-requires-3
+    (λ c κs. search needs)
+    (λ c κs. search needs)
     returns-4
     add-field-at-3
-    field-at-requires-4
-    is-closing-requires
+    (λ c κs. search needs)
+    (λ c κs. search needs)
     returns-5
-    fields-of-requires
+    (λ c κs. search needs)
     returns-6)

@@ -12,11 +12,8 @@ returns-2 c = search numbers-broken
 returns-3 : tie.Need-returns-3
 returns-3 c = search text-long
 
-parse-line-requires : tie.Need-parse-line-requires
-parse-line-requires c κs = search needs
-
 returns-4 : tie.Need-returns-4
 returns-4 c = search line-decides
 
 pub input-of-spec : {M : Type 1} → statement M
-input-of-spec = tie.close (tie.spec returns returns-2 returns-3 parse-line-requires returns-4)
+input-of-spec = tie.close (tie.spec returns returns-2 returns-3 (λ c κs. search needs) returns-4)

@@ -23,20 +23,8 @@ returns-2 c = search long-unfit
 loop-holds : tie.Need-loop-holds Inv-loop μ-loop
 loop-holds c = (omega arith, omega arith, omega arith, omega arith, rest-start _)
 
-shared-slice-read-b : tie.Need-shared-slice-read-b Inv-loop μ-loop
-shared-slice-read-b c = omega arith
-
-is-digit-requires : tie.Need-is-digit-requires Inv-loop μ-loop
-is-digit-requires c κs = search needs
-
 push-digit-requires : tie.Need-push-digit-requires Inv-loop μ-loop
 push-digit-requires c κs = (search eight-before, sym (c .before .is-digit .ensures) ∙ c .if3 .taken)
-
-add-i : tie.Need-add-i Inv-loop μ-loop
-add-i c = omega arith
-
-loop-less : tie.Need-loop-less Inv-loop μ-loop
-loop-less c = omega arith
 
 loop-again : tie.Need-loop-again Inv-loop μ-loop
 loop-again c = (omega arith, omega arith, omega arith, search number-grows, search rest-on)
@@ -56,11 +44,11 @@ numeral-of-spec =
     returns
     returns-2
     loop-holds
-    shared-slice-read-b
-    is-digit-requires
+    (λ c. omega arith)
+    (λ c κs. search needs)
     push-digit-requires
-    add-i
-    loop-less
+    (λ c. omega arith)
+    (λ c. omega arith)
     loop-again
     returns-3
     returns-4)

@@ -15,20 +15,8 @@ abbrev μ-loop : tie.MeasureT-loop
 loop-holds : tie.Need-loop-holds Inv-loop μ-loop
 loop-holds c = passing-start _ _
 
-shared-slice-read-is-mark : tie.Need-shared-slice-read-is-mark Inv-loop μ-loop
-shared-slice-read-is-mark c = search needs
-
-is-mark-requires : tie.Need-is-mark-requires Inv-loop μ-loop
-is-mark-requires c κs = search needs
-
 returns : tie.Need-returns Inv-loop μ-loop
 returns c = search field-here
-
-add-i : tie.Need-add-i Inv-loop μ-loop
-add-i c = omega arith
-
-loop-less : tie.Need-loop-less Inv-loop μ-loop
-loop-less c = omega arith
 
 loop-again : tie.Need-loop-again Inv-loop μ-loop
 loop-again c = search field-turn
@@ -43,10 +31,10 @@ field-at-spec =
     Inv-loop
     μ-loop
     loop-holds
-    shared-slice-read-is-mark
-    is-mark-requires
+    (λ c. search needs)
+    (λ c κs. search needs)
     returns
-    add-i
-    loop-less
+    (λ c. omega arith)
+    (λ c. omega arith)
     loop-again
     returns-2)

@@ -1,4 +1,4 @@
-use Rattle.inputs.specs.Places.{mark}
+use Rattle.inputs.specs.Spelling.{mark}
 use Rattle.inputs.proofs.parts.is_mark.Statement.{statement}
 use Rattle.inputs.proofs.parts.is_mark.Tie as tie
 

@@ -3,14 +3,8 @@ use borrow.Author.Needs.{needs}
 use Rattle.inputs.proofs.parts.is_space.Statement.{statement}
 use Rattle.inputs.proofs.parts.is_space.Tie as tie
 
-shared-slice-read-result : tie.Need-shared-slice-read-result
-shared-slice-read-result c = search needs
-
-returns : tie.Need-returns
-returns c = search needs
-
 returns-2 : tie.Need-returns-2
 returns-2 c = search no-space
 
 pub is-space-spec : {M : Type 1} → statement M
-is-space-spec = tie.close (tie.spec shared-slice-read-result returns returns-2)
+is-space-spec = tie.close (tie.spec (λ c. search needs) (λ c. search needs) returns-2)
