@@ -1,13 +1,19 @@
 -- What record file, text and input line give, by the tests of the code.
-use mathlib.Core.Path.{_≡_}
+use mathlib.Core.Path.{_≡_, refl, sym}
+use mathlib.Core.Bool.{Bool, true, false, cond, _&&_}
 use mathlib.Core.List.{List}
+use mathlib.Core.Option.{Option, none, some, Option·map, Option·none-ne-some}
 use Prim.Native.Nat.{ℕ, _%_, _≤_, _<_}
-use borrow.Author.Tests.{le-leb, lt-leb, eq-eqb, ne-eqb}
+use borrow.Author.Tests.{le-leb, lt-leb, eq-eqb, ne-eqb, leb-true, eqb-true}
+use lib.Dec.{leb, eqb}
 use lib.ListN.{length}
+use Rattle.text.specs.Span.{cut}
+use Rattle.text.proofs.Bools.{both}
+use Rattle.inputs.specs.declared.fields.Fields.{Fields}
 use Rattle.inputs.specs.declared.fields.Line.{Line}
-use Rattle.inputs.specs.declared.fields.Line.the-variants.{Unfit}
-use Rattle.inputs.specs.Line.{lineOf}
-use Rattle.inputs.specs.Given.{recordFile, inputOf}
+use Rattle.inputs.specs.declared.fields.Line.the-variants.{Unfit, Fit}
+use Rattle.inputs.specs.Line.{Content, lineOf}
+use Rattle.inputs.specs.Given.{Given, numbersOf, recordFile, inputOf}
 use Rattle.inputs.specs.Places.{lineAt, givenBy}
 
 module _ (records text input : List ℕ) where
@@ -28,3 +34,24 @@ module _ (records text input : List ℕ) where
       pub line-decides : length text ≤ 65536 → (a : Line) → lineAt input a ≡ lineOf input → givenBy records text input a ≡ inputOf records text input
       unfolding givenBy recordFile inputOf
       line-decides l a q = rw (q, le-leb (length records) 6144 h, eq-eqb (length records % 4) 0 e, le-leb (length text) 65536 l)
+
+-- what was told of a fit input: the sizes of the files, and what is given
+module _ (records text input : List ℕ) (f : Fields) (q : givenBy records text input (Fit f) ≡ inputOf records text input) where
+  pub fit-given : inputOf records text input ≡ some (record { table = numbersOf records; text = text; line = record { mode = f .mode; rules = f .rules; currency = cut (f .currency) input; identifier = cut (f .identifier) input } })
+  unfolding givenBy
+  fit-given = sym q
+
+  fit-files : (recordFile records && leb (length text) 65536) ≡ true
+  unfolding inputOf
+  fit-files = go (recordFile records && leb (length text) 65536) (Option·map (λ (l : Content). record { table = numbersOf records; text = text; line = l }) (lineOf input)) fit-given
+    where
+      go : (b : Bool) (o : Option Given) {g : Given} → cond b o none ≡ some g → b ≡ true
+      go true o e = refl
+      go false o {g} e = absurd (Option·none-ne-some g e)
+
+  pub fit-sizes : (length records ≤ 6144) × (length records % 4 ≡ 0) × (length text ≤ 65536)
+  unfolding recordFile
+  fit-sizes =
+      let b = both (recordFile records) (leb (length text) 65536) fit-files in
+      let d = both (leb (length records) 6144) (eqb (length records % 4) 0) (b .0) in
+      (leb-true (length records) 6144 (d .0), eqb-true (length records % 4) 0 (d .1), leb-true (length text) 65536 (b .1))

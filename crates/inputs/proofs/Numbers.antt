@@ -7,10 +7,11 @@ use native.Mathlib.Omega.{arith}
 use native.Mathlib.Numerals.{add-one}
 use borrow.Author.Tests.{ltb-true}
 use lib.Dec.{ltb}
-use lib.ListN.{length, getD, drop, set, length-drop, length-set}
-use lib.Seq.{drop-cons}
+use lib.ListN.{length, getD, take, drop, set, length-drop, length-set}
+use lib.Seq.{drop-cons, take-at}
 use Rattle.text.proofs.Bools.{both}
 use Rattle.names.specs.Put.{put}
+use Rattle.names.proofs.Puts.{put-eq}
 use Rattle.inputs.specs.Given.{littleEndian, numbersOf}
 use Rattle.inputs.specs.Places.{Listed}
 use Rattle.inputs.specs.Spelling.{allFit, recordBytes}
@@ -73,3 +74,13 @@ module _ (s l₀ l : List ℕ) (k : ℕ) (f : Putting s l₀ l k) where
   putting-end h =
       let z = numbers-few (drop (k * 4) s) (omega (arith, length-drop (k * 4) s)) in
       record { now = sym (f .now ∙ ap (put l k) z); many = sym (numbers-length s) }
+
+-- what stands at the front of a table in which numbers were put
+module _ {s l l′ : List ℕ} {n : ℕ} (f : Listed s l l′ n) where
+  pub listed-few : length s ≤ 6144 → n ≤ 1536
+  listed-few h = omega (arith, f .many, numbers-length s)
+
+  pub listed-table : n ≤ length l → take n l′ ≡ numbersOf s
+  listed-table h =
+      let q = put-eq l 0 (numbersOf s) (omega (arith, f .many)) in
+      rw (f .now, q) (take-at (numbersOf s) (drop (0 + length (numbersOf s)) l) n (sym (f .many)))

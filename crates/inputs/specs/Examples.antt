@@ -1,10 +1,11 @@
 -- Input lines, fit and unfit, and what they say.
 use mathlib.Core.List.{List, [], _∷_}
-use mathlib.Core.Option.{Option, none, some}
+use mathlib.Core.Option.{Option, none, some, Option·map}
 use Prim.Native.Nat.{ℕ}
 use Prim.Native.String.{String}
 use Rattle.text.specs.Utf8.{bytes}
 use Rattle.inputs.specs.Line.{Content}
+use Rattle.inputs.specs.Given.{Given, inputOf}
 
 -- a line that says these
 abbrev says : ℕ → ℕ → String → String → Option Content
@@ -23,4 +24,16 @@ examples =
     ∷ ("0 0 EUR -\n\n", none)
     ∷ ("0 0000000000 EUR -", none)
     ∷ ("0 x EUR -", none)
+    ∷ []
+
+-- the table that a record file gives beside an empty text and document 01's line
+abbrev pub tableOf : List ℕ → Option (List ℕ)
+tableOf records = Option·map (λ (g : Given). g .table) (inputOf records [] (bytes "0 0 EUR -"))
+
+-- record files and their tables: one whose records are not whole is refused and not unfit
+unfoldable pub recordFiles : List (List ℕ × Option (List ℕ))
+recordFiles =
+    ([], some [])
+    ∷ (1 ∷ 2 ∷ 3 ∷ 4 ∷ 255 ∷ 255 ∷ 255 ∷ 255 ∷ [], some (67305985 ∷ 4294967295 ∷ []))
+    ∷ (0 ∷ 0 ∷ 0 ∷ 0 ∷ 0 ∷ [], none)
     ∷ []

@@ -7,7 +7,7 @@ use lib.Dec.{leb, eqb}
 use lib.ListN.{length}
 use Rattle.inputs.specs.Line.{Content, lineOf}
 
--- the number of four bytes, the least first
+-- the number of four bytes, "little-endian"
 abbrev pub littleEndian : ℕ → ℕ → ℕ → ℕ → ℕ
 littleEndian a b c d = a + b * 256 + c * 65536 + d * 16777216
 
@@ -25,11 +25,11 @@ pub record Given : Type 0 where
   pub text : List ℕ
   pub line : Content
 
--- a record file: at most 256 records of six numbers, and whole numbers
+-- a record file not "over 256 records", six numbers each, and "of whole numbers"; that its records are whole is refusal 3
 unfoldable pub recordFile : List ℕ → Bool
 recordFile records = leb (length records) (256 * 6 * 4) && eqb (length records % 4) 0
 
--- record file, text and input line; none where one of them is unfit
+-- record file, a text not "over 65,536 bytes" and input line; none where one of them is unfit
 unfoldable pub inputOf : List ℕ → List ℕ → List ℕ → Option Given
 inputOf records text input =
     cond (recordFile records && leb (length text) 65536)

@@ -21,12 +21,12 @@ unfoldable pub ahead : ℕ → List (List ℕ) → List (List ℕ)
 ahead b [] = []
 ahead b (f ∷ fs) = (b ∷ f) ∷ fs
 
--- the texts between the bytes p of a text, one more than there are such bytes
+-- the texts between the bytes p of a text, one more than there are such bytes: what p parts, empty texts too
 unfoldable pub split : ℕ → List ℕ → List (List ℕ)
 split p [] = [] ∷ []
 split p (b ∷ s) = cond (eqb b p) ([] ∷ split p s) (ahead b (split p s))
 
--- one line, of the texts between line feeds: its line feed may be missing, and nothing stands after it
+-- "one input line", of the texts between line feeds: its line feed may be missing, and nothing stands after it
 unfoldable pub oneLine : List (List ℕ) → Option (List ℕ)
 oneLine [] = none
 oneLine (l ∷ []) = some l
@@ -34,11 +34,11 @@ oneLine (l ∷ [] ∷ []) = some l
 oneLine (l ∷ [] ∷ m ∷ ls) = none
 oneLine (l ∷ (b ∷ m) ∷ ls) = none
 
--- the fields of an input, parted by single spaces
+-- the fields of an input, parted by "single spaces"
 unfoldable pub parted : List ℕ → Option (List (List ℕ))
 parted s = Option·map (split 0x20) (oneLine (split 0x0A s))
 
--- one to nine digits
+-- "one to nine digits"; leading zeros are digits
 unfoldable pub numeral : List ℕ → Bool
 numeral f = within (length f) 1 9 && allDigits f
 
@@ -46,11 +46,11 @@ numeral f = within (length f) 1 9 && allDigits f
 unfoldable pub filled : List ℕ → Bool
 filled f = ltb 0 (length f)
 
--- `-` alone stands for none
+-- "currency or `-`, identifier or `-`": `-` alone stands for none
 unfoldable pub orNone : List ℕ → List ℕ
 orNone f = cond (equal f (0x2D ∷ [])) [] f
 
--- mode, rules, currency and identifier, and no other field
+-- "mode, rules, currency, identifier", and no other field; "another form" is unfit
 unfoldable pub fieldsOf : List (List ℕ) → Option Content
 fieldsOf (m ∷ r ∷ c ∷ i ∷ []) =
     cond (numeral m && numeral r && filled c && filled i)
@@ -62,6 +62,6 @@ fieldsOf (m ∷ r ∷ []) = none
 fieldsOf (m ∷ r ∷ c ∷ []) = none
 fieldsOf (m ∷ r ∷ c ∷ i ∷ f ∷ fs) = none
 
--- what an input of at most 65,536 bytes says
+-- what an input says; one of more than 65,536 bytes is unfit
 unfoldable pub lineOf : List ℕ → Option Content
 lineOf s = cond (leb (length s) 65536) (bind (parted s) fieldsOf) none

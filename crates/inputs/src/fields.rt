@@ -24,7 +24,7 @@ pub struct Fields {
     pub identifier: Span,
 }
 
-// An input line's fields, or that it has another form.
+// The fields of an input line, or that the line, or a file beside it, is unfit.
 pub enum Line {
     Unfit,
     Fit(Fields),
