@@ -35,11 +35,11 @@ module _ (records text input : List ℕ) where
       unfolding givenBy recordFile inputOf
       line-decides l a q = rw (q, le-leb (length records) 6144 h, eq-eqb (length records % 4) 0 e, le-leb (length text) 65536 l)
 
--- what was told of a fit input: the sizes of the files, and what is given
-module _ (records text input : List ℕ) (f : Fields) (q : givenBy records text input (Fit f) ≡ inputOf records text input) where
+-- what an answer of `input_of` says where it is fit: what is given, and the sizes of the files
+module _ (records text input : List ℕ) {a : Line} {f : Fields} (e : a ≡ Fit f) (q : givenBy records text input a ≡ inputOf records text input) where
   pub fit-given : inputOf records text input ≡ some (record { table = numbersOf records; text = text; line = record { mode = f .mode; rules = f .rules; currency = cut (f .currency) input; identifier = cut (f .identifier) input } })
   unfolding givenBy
-  fit-given = sym q
+  fit-given = sym (rw e at q)
 
   fit-files : (recordFile records && leb (length text) 65536) ≡ true
   unfolding inputOf
