@@ -1,6 +1,6 @@
 -- The bytes of an input at a place, and the loop that finds where a field ends.
 use mathlib.Core.Path.{_≡_, refl, ap, _∙_}
-use mathlib.Core.Bool.{Bool, true, false}
+use mathlib.Core.Bool.{Bool, true, false, cond}
 use mathlib.Core.List.{List, [], _∷_}
 use Prim.Native.Nat.{ℕ, suc, _+_, _-_, _≤_, _<_}
 use native.Mathlib.Omega.{arith}
@@ -12,7 +12,7 @@ use Rattle.text.specs.declared.span.Span.{Span}
 use Rattle.text.specs.Span.{cut, clipped}
 use Rattle.text.specs.Order.{equal}
 use Rattle.inputs.specs.Line.{orNone}
-use Rattle.inputs.specs.Places.{word, fieldAt, closing}
+use Rattle.inputs.specs.Places.{spaceAt, word, fieldAt, closing, nameAt}
 use Rattle.inputs.specs.Spelling.{mark}
 
 module _ (s : List ℕ) (p : Span) where
@@ -26,19 +26,35 @@ module _ (s : List ℕ) (p : Span) where
 
 -- a currency or an identifier
 module _ (s : List ℕ) (p : Span) {b : List ℕ} (e : b ≡ cut p s) {t : Bool} (q : t ≡ equal b (0x2D ∷ [])) where
-  pub name-none : t ≡ true → (i : ℕ) → cut (record { start = i; end = i }) s ≡ orNone (cut p s)
-  unfolding cut orNone
-  name-none y i =
-      let z : i - i ≡ 0 = omega arith in
-      rw (z, ← e, ← q, y)
+  pub name-none : t ≡ true → record { start = p .start; end = p .start } ≡ nameAt s p
+  unfolding nameAt
+  name-none y = rw (← e, ← q, y)
 
-  pub name-some : t ≡ false → cut p s ≡ orNone (cut p s)
-  unfolding orNone
+  pub name-some : t ≡ false → p ≡ nameAt s p
+  unfolding nameAt
   name-some n = rw (← e, ← q, n)
+
+cut-empty : (s : List ℕ) (i : ℕ) → cut (record { start = i; end = i }) s ≡ []
+unfolding cut
+cut-empty s i = let z : i - i ≡ 0 = omega arith in rw z
+
+-- the bytes at its place
+pub name-bytes : (s : List ℕ) (p : Span) → cut (nameAt s p) s ≡ orNone (cut p s)
+unfolding nameAt orNone
+name-bytes s p = go (equal (cut p s) (0x2D ∷ []))
+  where
+    go : (t : Bool) → cut (cond t (record { start = p .start; end = p .start }) p) s ≡ cond t [] (cut p s)
+    go true = cut-empty s (p .start)
+    go false = refl
 
 -- the bytes from i on
 module _ (s : List ℕ) (i : ℕ) where
-  pub no-space : length s ≤ i → false ≡ eqb (getD s i 0) 0x20
+  pub space-here : i < length s → eqb (getD s i 0) 0x20 ≡ spaceAt s i
+  unfolding spaceAt
+  space-here h = refl
+
+  pub no-space : length s ≤ i → false ≡ spaceAt s i
+  unfolding spaceAt
   no-space h = rw (List·getD-eq-default s 0 h)
 
   pub closing-past : length s ≤ i → true ≡ closing (drop i s)

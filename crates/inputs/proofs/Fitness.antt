@@ -1,5 +1,5 @@
 -- What record file, text and input line give, by the tests of the code.
-use mathlib.Core.Path.{_≡_, refl, sym}
+use mathlib.Core.Path.{_≡_, refl, sym, _∙_}
 use mathlib.Core.Bool.{Bool, true, false, cond, _&&_}
 use mathlib.Core.List.{List}
 use mathlib.Core.Option.{Option, none, some, Option·map, Option·none-ne-some}
@@ -14,32 +14,44 @@ use Rattle.inputs.specs.declared.fields.Line.{Line}
 use Rattle.inputs.specs.declared.fields.Line.the-variants.{Unfit, Fit}
 use Rattle.inputs.specs.Line.{Content, lineOf}
 use Rattle.inputs.specs.Given.{Given, numbersOf, recordFile, inputOf}
-use Rattle.inputs.specs.Places.{lineAt, givenBy}
+use Rattle.inputs.specs.Places.{givenBy, Parsed, Decided}
 
 module _ (records text input : List ℕ) where
-  pub records-long : 6144 < length records → givenBy records text input Unfit ≡ inputOf records text input
+  pub records-long : 6144 < length records → Decided records text input Unfit
   unfolding givenBy recordFile inputOf
-  records-long h = rw (lt-leb (length records) 6144 h)
+  records-long h = record { says = rw (lt-leb (length records) 6144 h); is = rw (lt-leb (length records) 6144 h) }
 
   module _ (h : length records ≤ 6144) where
-    pub numbers-broken : (length records % 4 ≡ 0 → ⊥) → givenBy records text input Unfit ≡ inputOf records text input
+    pub numbers-broken : (length records % 4 ≡ 0 → ⊥) → Decided records text input Unfit
     unfolding givenBy recordFile inputOf
-    numbers-broken n = rw (le-leb (length records) 6144 h, ne-eqb (length records % 4) 0 n)
+    numbers-broken n =
+        record {
+          says = rw (le-leb (length records) 6144 h, ne-eqb (length records % 4) 0 n);
+          is = rw (le-leb (length records) 6144 h, ne-eqb (length records % 4) 0 n);
+        }
 
     module _ (e : length records % 4 ≡ 0) where
-      pub text-long : 65536 < length text → givenBy records text input Unfit ≡ inputOf records text input
+      pub text-long : 65536 < length text → Decided records text input Unfit
       unfolding givenBy recordFile inputOf
-      text-long l = rw (le-leb (length records) 6144 h, eq-eqb (length records % 4) 0 e, lt-leb (length text) 65536 l)
+      text-long l =
+          record {
+            says = rw (le-leb (length records) 6144 h, eq-eqb (length records % 4) 0 e, lt-leb (length text) 65536 l);
+            is = rw (le-leb (length records) 6144 h, eq-eqb (length records % 4) 0 e, lt-leb (length text) 65536 l);
+          }
 
-      pub line-decides : length text ≤ 65536 → (a : Line) → lineAt input a ≡ lineOf input → givenBy records text input a ≡ inputOf records text input
+      pub line-decides : length text ≤ 65536 → {a : Line} → Parsed input a → Decided records text input a
       unfolding givenBy recordFile inputOf
-      line-decides l a q = rw (q, le-leb (length records) 6144 h, eq-eqb (length records % 4) 0 e, le-leb (length text) 65536 l)
+      line-decides l q =
+          record {
+            says = rw (q .says, le-leb (length records) 6144 h, eq-eqb (length records % 4) 0 e, le-leb (length text) 65536 l);
+            is = q .is ∙ rw (le-leb (length records) 6144 h, eq-eqb (length records % 4) 0 e, le-leb (length text) 65536 l);
+          }
 
 -- what an answer of `input_of` says where it is fit: what is given, and the sizes of the files
-module _ (records text input : List ℕ) {a : Line} {f : Fields} (e : a ≡ Fit f) (q : givenBy records text input a ≡ inputOf records text input) where
+module _ (records text input : List ℕ) {a : Line} {f : Fields} (e : a ≡ Fit f) (q : Decided records text input a) where
   pub fit-given : inputOf records text input ≡ some (record { table = numbersOf records; text = text; line = record { mode = f .mode; rules = f .rules; currency = cut (f .currency) input; identifier = cut (f .identifier) input } })
   unfolding givenBy
-  fit-given = sym (rw e at q)
+  fit-given = sym (rw e at (q .says))
 
   fit-files : (recordFile records && leb (length text) 65536) ≡ true
   unfolding inputOf

@@ -13,7 +13,7 @@ use lib.Seq.{getD-drop, drop-drop}
 use Rattle.text.specs.declared.span.Span.{Span}
 use Rattle.text.specs.Span.{cut}
 use Rattle.inputs.specs.Line.{ahead, split, oneLine, parted}
-use Rattle.inputs.specs.Places.{word, fieldAt, closing}
+use Rattle.inputs.specs.Places.{spaceAt, word, fieldAt, closing}
 use Rattle.inputs.specs.Spelling.{mark}
 
 -- a byte at the front of a line
@@ -145,7 +145,8 @@ module _ (s : List ℕ) (i : ℕ) (p : Span) (e : p ≡ fieldAt s i) where
       let n : i + length (word (drop i s)) - i ≡ length (word (drop i s)) = omega arith in
       rw (e, n) (word-taken (drop i s))
 
-  pub field-behind : Behind (eqb (getD s (p .end) 0) 0x20) (closing (drop (p .end) s)) (cut p s) (parted (drop i s)) (parted (drop (p .end + 1) s))
+  pub field-behind : Behind (spaceAt s (p .end)) (closing (drop (p .end) s)) (cut p s) (parted (drop i s)) (parted (drop (p .end + 1) s))
+  unfolding spaceAt
   field-behind =
       let n : i + length (word (drop i s)) + 1 ≡ i + suc (length (word (drop i s))) = omega arith in
       rw (field-bytes, field-end, n, ← getD-drop i s (length (word (drop i s))) 0, ← drop-drop (length (word (drop i s))) i s, ← drop-drop (suc (length (word (drop i s)))) i s)

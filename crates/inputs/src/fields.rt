@@ -1,9 +1,8 @@
 // The input line: mode, rules, currency and identifier.
 ghost use mathlib.Core.Path.{_≡_};
-ghost use mathlib.Core.List.{[], _∷_};
 ghost use Rattle.text.specs.Span.{cut};
-ghost use Rattle.inputs.specs.Line.{lineOf, fieldsOf, orNone, filled};
-ghost use Rattle.inputs.specs.Places.{lineAt};
+ghost use Rattle.inputs.specs.Line.{filled};
+ghost use Rattle.inputs.specs.Places.{nameAt, fitAt, Parsed};
 use crate::numeral::Numeral;
 use crate::numeral::numeral_of;
 use crate::parts::bytes_at;
@@ -32,7 +31,7 @@ pub enum Line {
 
 // The place of a currency or an identifier, empty where `-` stands for none.
 fn name_at(input: &[u8], place: Span) -> Span
-    ensures { λ r. ⌜ cut r (now (input .entry)) ≡ orNone (cut place (now (input .entry))) ⌝ }
+    ensures { λ r. ⌜ r ≡ nameAt (now (input .entry)) place ⌝ }
 {
     let start = place.start;
     if text::same(bytes_at(input, place), b"-") {
@@ -51,7 +50,7 @@ fn is_filled(input: &[u8], place: Span) -> bool
 
 // What four fields say, by their places.
 fn fields_of(input: &[u8], mode: Span, rules: Span, currency: Span, identifier: Span) -> Line
-    ensures { λ r. ⌜ lineAt (now (input .entry)) r ≡ fieldsOf (cut mode (now (input .entry)) ∷ cut rules (now (input .entry)) ∷ cut currency (now (input .entry)) ∷ cut identifier (now (input .entry)) ∷ []) ⌝ }
+    ensures { λ r. ⌜ r ≡ fitAt (now (input .entry)) mode rules currency identifier ⌝ }
 {
     let mode_number = numeral_of(bytes_at(input, mode));
     let Numeral::Number(mode) = mode_number else {
@@ -79,7 +78,7 @@ fn fields_of(input: &[u8], mode: Span, rules: Span, currency: Span, identifier: 
 
 // What an input line says.
 pub fn parse_line(input: &[u8]) -> Line
-    ensures { λ r. ⌜ lineAt (now (input .entry)) r ≡ lineOf (now (input .entry)) ⌝ }
+    ensures { λ r. ⌜ Parsed (now (input .entry)) r ⌝ }
 {
     if LONGEST < input.len() {
         return Line::Unfit;

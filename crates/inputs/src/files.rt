@@ -1,8 +1,8 @@
 // The record file and the text, beside the input line.
 ghost use mathlib.Core.Path.{_≡_};
 ghost use lib.ListN.{set};
-ghost use Rattle.inputs.specs.Given.{littleEndian, inputOf};
-ghost use Rattle.inputs.specs.Places.{Listed, givenBy};
+ghost use Rattle.inputs.specs.Given.{littleEndian};
+ghost use Rattle.inputs.specs.Places.{Listed, Decided};
 use crate::fields::Line;
 use crate::fields::parse_line;
 
@@ -45,7 +45,7 @@ pub fn numbers_of(records: &[u8], table: &mut [u32]) -> usize
 
 // What record file, text and input line give, or that one of them is unfit.
 pub fn input_of(records: &[u8], text: &[u8], input: &[u8]) -> Line
-    ensures { λ r. ⌜ givenBy (now (records .entry)) (now (text .entry)) (now (input .entry)) r ≡ inputOf (now (records .entry)) (now (text .entry)) (now (input .entry)) ⌝ }
+    ensures { λ r. ⌜ Decided (now (records .entry)) (now (text .entry)) (now (input .entry)) r ⌝ }
 {
     if RECORDS < records.len() {
         return Line::Unfit;

@@ -1,9 +1,8 @@
 // The parts of an input line, which a space or the line feed ends.
 ghost use mathlib.Core.Path.{_≡_};
-ghost use lib.Dec.{eqb};
-ghost use lib.ListN.{getD, drop};
+ghost use lib.ListN.{drop};
 ghost use Rattle.text.specs.Span.{cut};
-ghost use Rattle.inputs.specs.Places.{fieldAt, closing};
+ghost use Rattle.inputs.specs.Places.{spaceAt, fieldAt, closing};
 ghost use Rattle.inputs.specs.Spelling.{mark};
 use text::Span;
 
@@ -46,7 +45,7 @@ pub(crate) fn field_at(s: &[u8], start: usize) -> Span
 
 // Whether a space stands at i.
 pub(crate) fn is_space(s: &[u8], i: usize) -> bool
-    ensures { λ r. ⌜ r ≡ eqb (getD (now (s .entry)) i 0) 0x20 ⌝ }
+    ensures { λ r. ⌜ r ≡ spaceAt (now (s .entry)) i ⌝ }
 {
     if i < s.len() {
         return s[i] == b' ';

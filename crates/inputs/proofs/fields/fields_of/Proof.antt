@@ -50,7 +50,7 @@ returns-5 c =
     (not-false _ (f .before .before .if1 .left))
     (f .before .is-filled2 .ensures)
     (not-false _ (f .if2 .left))
-    _ _ (c .before .name-at .ensures) (c .name-at2 .ensures)
+    (c .before .name-at .ensures) (c .name-at2 .ensures)
 
 pub fields-of-spec : {M : Type 1} → statement M
 fields-of-spec =

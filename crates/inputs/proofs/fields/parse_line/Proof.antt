@@ -12,12 +12,12 @@ returns-2 : tie.Need-returns-2
 returns-2 c =
     one-field
     _ (c .before .before .before .if1 .left)
-    _ (c .before .before .field-at .ensures) _ (c .before .is-space .ensures)
+    _ (c .before .before .field-at .ensures) (c .before .is-space .ensures)
     (not-true _ (c .if2 .taken))
 
 add-field-at : tie.Need-add-field-at
 add-field-at c =
-    let space = space-inside (c .before .before .before .before .before .before .args .input .now) (c .before .before .before .field-at .result .end) _ (c .before .before .is-space .ensures) (not-false _ (c .before .if2 .left)) in
+    let space = space-inside _ _ (c .before .before .is-space .ensures) (not-false _ (c .before .if2 .left)) in
     omega (arith, space)
 
 returns-3 : tie.Need-returns-3
@@ -25,14 +25,14 @@ returns-3 c =
     let m = c .before .before .before .before in
     two-fields
     _ (m .before .before .before .if1 .left)
-    _ (m .before .before .field-at .ensures) _ (m .before .is-space .ensures)
+    _ (m .before .before .field-at .ensures) (m .before .is-space .ensures)
     (not-false _ (m .if2 .left))
-    _ (c .before .before .field-at2 .ensures) _ (c .before .is-space2 .ensures)
+    _ (c .before .before .field-at2 .ensures) (c .before .is-space2 .ensures)
     (not-true _ (c .if3 .taken))
 
 add-field-at-2 : tie.Need-add-field-at-2
 add-field-at-2 c =
-    let space = space-inside (c .before .before .before .before .before .before .before .before .before .before .args .input .now) (c .before .before .before .field-at2 .result .end) _ (c .before .before .is-space2 .ensures) (not-false _ (c .before .if3 .left)) in
+    let space = space-inside _ _ (c .before .before .is-space2 .ensures) (not-false _ (c .before .if3 .left)) in
     omega (arith, space)
 
 returns-4 : tie.Need-returns-4
@@ -41,16 +41,16 @@ returns-4 c =
     let m = r .before .before .before .before in
     three-fields
     _ (m .before .before .before .if1 .left)
-    _ (m .before .before .field-at .ensures) _ (m .before .is-space .ensures)
+    _ (m .before .before .field-at .ensures) (m .before .is-space .ensures)
     (not-false _ (m .if2 .left))
-    _ (r .before .before .field-at2 .ensures) _ (r .before .is-space2 .ensures)
+    _ (r .before .before .field-at2 .ensures) (r .before .is-space2 .ensures)
     (not-false _ (r .if3 .left))
-    _ (c .before .before .field-at3 .ensures) _ (c .before .is-space3 .ensures)
+    _ (c .before .before .field-at3 .ensures) (c .before .is-space3 .ensures)
     (not-true _ (c .if4 .taken))
 
 add-field-at-3 : tie.Need-add-field-at-3
 add-field-at-3 c =
-    let space = space-inside (c .before .before .before .before .before .before .before .before .before .before .before .before .before .before .args .input .now) (c .before .before .before .field-at3 .result .end) _ (c .before .before .is-space3 .ensures) (not-false _ (c .before .if4 .left)) in
+    let space = space-inside _ _ (c .before .before .is-space3 .ensures) (not-false _ (c .before .if4 .left)) in
     omega (arith, space)
 
 returns-5 : tie.Need-returns-5
@@ -60,13 +60,13 @@ returns-5 c =
     let m = r .before .before .before .before in
     five-fields
     _ (m .before .before .before .if1 .left)
-    _ (m .before .before .field-at .ensures) _ (m .before .is-space .ensures)
+    _ (m .before .before .field-at .ensures) (m .before .is-space .ensures)
     (not-false _ (m .if2 .left))
-    _ (r .before .before .field-at2 .ensures) _ (r .before .is-space2 .ensures)
+    _ (r .before .before .field-at2 .ensures) (r .before .is-space2 .ensures)
     (not-false _ (r .if3 .left))
-    _ (d .before .before .field-at3 .ensures) _ (d .before .is-space3 .ensures)
+    _ (d .before .before .field-at3 .ensures) (d .before .is-space3 .ensures)
     (not-false _ (d .if4 .left))
-    _ (c .before .before .field-at4 .ensures) _ (c .before .is-closing .ensures)
+    _ (c .before .before .field-at4 .ensures) (c .before .is-closing .ensures)
     (not-true _ (c .if5 .taken))
 
 returns-6 : tie.Need-returns-6
@@ -77,13 +77,13 @@ returns-6 c =
     let m = r .before .before .before .before in
     four-fields
     _ (m .before .before .before .if1 .left)
-    _ (m .before .before .field-at .ensures) _ (m .before .is-space .ensures)
+    _ (m .before .before .field-at .ensures) (m .before .is-space .ensures)
     (not-false _ (m .if2 .left))
-    _ (r .before .before .field-at2 .ensures) _ (r .before .is-space2 .ensures)
+    _ (r .before .before .field-at2 .ensures) (r .before .is-space2 .ensures)
     (not-false _ (r .if3 .left))
-    _ (d .before .before .field-at3 .ensures) _ (d .before .is-space3 .ensures)
+    _ (d .before .before .field-at3 .ensures) (d .before .is-space3 .ensures)
     (not-false _ (d .if4 .left))
-    _ (i .before .before .field-at4 .ensures) _ (i .before .is-closing .ensures)
+    _ (i .before .before .field-at4 .ensures) (i .before .is-closing .ensures)
     (not-false _ (i .if5 .left))
     (c .fields-of .ensures)
 
