@@ -6,8 +6,6 @@
 mod place;
 mod value;
 
-pub use place::is_shown;
-pub use place::shown;
 pub use value::View;
 pub use value::bytes;
 pub use value::bytes_at;

@@ -3,7 +3,7 @@ ghost use mathlib.Core.Path.{_≡_};
 ghost use Rattle.view.specs.View.{lies, shownAt};
 
 // Whether a place is present and inside the text.
-pub fn is_shown(text: &[u8], start: i64, length: i64) -> bool
+pub(crate) fn is_shown(text: &[u8], start: i64, length: i64) -> bool
     ensures { λ r. ⌜ r ≡ lies (now (text .entry)) start length ⌝ }
 {
     if start < 0 {
@@ -21,7 +21,7 @@ pub fn is_shown(text: &[u8], start: i64, length: i64) -> bool
 }
 
 // The bytes at a place, none where it is absent or outside the text.
-pub fn shown(text: &[u8], start: i64, length: i64) -> &[u8]
+pub(crate) fn shown(text: &[u8], start: i64, length: i64) -> &[u8]
     ensures { λ r. ⌜ now r ≡ shownAt (now (text .entry)) start length ⌝ }
 {
     if start < 0 {
