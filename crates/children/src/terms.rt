@@ -68,7 +68,7 @@ pub(crate) fn payment_means(
     ensures { λ r. ⌜ ((L : Lent) → Stepped paymentMeans L (linkDoc (now (table .entry)) (now (text .entry)) (now (links .entry))) (now (text .entry)) c s r (now (held .entry)) (now (held .exit)) (now (entries .entry)) (now (entries .exit)) (now (unmapped .entry)) (now (unmapped .exit))) ⌝ }
 {
     let so_far = s.payment;
-    let said = payment::payment_means(
+    let said = means::filled_in(
         table,
         text,
         links,

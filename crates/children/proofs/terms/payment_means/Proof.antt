@@ -10,7 +10,7 @@ use Rattle.children.proofs.terms.payment_means.Tie as tie
 returns : tie.Need-returns
 unfolding stepBy actBy own home sameKind
 returns c L =
-    let acted = c .before .before .before .before .before .before .payment-means .ensures in
+    let acted = c .before .before .before .before .before .before .filled-in .ensures in
     record { state = lanes refl refl refl refl refl (acted .same) refl refl refl refl refl refl refl refl refl; held = acted .held; said = acted .said; noted = acted .noted }
 
 pub payment-means-spec : {M : Type 1} → statement M
