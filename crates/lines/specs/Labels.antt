@@ -22,7 +22,7 @@ bracketed (negsuc i) = []
 unfoldable pub groupText : List ℕ → ℤ → List ℕ
 groupText group index = cond (eqb (length group) 0) [] (group ++ bracketed index ++ bytes "/")
 
--- before the term's name: `BG-23[0]/BT-116`
+-- the term's name behind its group: `BG-23[0]/BT-116`
 unfoldable pub termText : List ℕ → ℤ → List ℕ → List ℕ
 termText group index name = groupText group index ++ name
 
