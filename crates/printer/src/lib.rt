@@ -1,0 +1,55 @@
+// Reads a settlement of at most 256 records and prints its reading on standard output (document 01,
+// "The printed reading"), for the programs that do so.
+//
+// The lines are made by crate `printed`, which is proved; here they are only written. The crate trusts
+// the C library's `write`, through `io`.
+use rulzhamm::rulzhamm_read;
+
+const STDOUT: i32 = 1;
+
+// Writes the lines of what a call left. A line of a text of at most 65,536 bytes has room in `out`.
+fn print_lines(
+    out: &mut [u8; 524288],
+    text: &[u8],
+    answer: &[i64],
+    held: &[i64],
+    entries: &[i64],
+    unmapped: &[i64],
+) {
+    let lines = printed::line_count(answer, held, entries, unmapped);
+    let mut k = 0;
+    while k < lines {
+        let n = printed::put_line(out, text, answer, held, entries, unmapped, k);
+        io::write_all(STDOUT, text::clip(out, 0, n));
+        k += 1;
+    }
+}
+
+// Reads a settlement and prints its reading; a larger table is refused (10).
+pub fn print_reading(
+    table: &[u32],
+    text: &[u8],
+    currency: &[u8],
+    identifier: &[u8],
+    rules: u32,
+    mode: u32,
+) {
+    let mut held = [0i64; 3584];
+    let mut entries = [0i64; 6144];
+    let mut unmapped = [0i64; 768];
+    let mut answer = [0i64; 65];
+    rulzhamm_read(
+        table,
+        text,
+        currency,
+        identifier,
+        rules,
+        mode,
+        &mut held,
+        &mut entries,
+        &mut unmapped,
+        &mut answer,
+    );
+    let mut out = [0u8; 524288];
+    print_lines(&mut out, text, &answer, &held, &entries, &unmapped);
+}

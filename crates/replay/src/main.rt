@@ -1,0 +1,110 @@
+// The reader on stored cases: each line of standard input is a case, and its reading is printed as
+// document 01 says, and then an empty line.
+//
+// A case is an input line (mode, rules number, currency, identifier), the table's numbers and, after
+// ` :`, its text. oracle/replay has the cases with the answers that the Rust gave, or that were worked
+// out from document 01; oracle/README.md says how they were made.
+ghost use mathlib.Core.Path.{_≡_};
+use inputs::Fields;
+use inputs::Line;
+use inputs::bytes_at;
+
+const STDIN: i32 = 0;
+
+const STDOUT: i32 = 1;
+
+fn print_unfit() {
+    io::write_all(STDOUT, b"unfit\n");
+}
+
+// The next space behind a place, the end where there is none.
+fn next_space(line: &[u8], at: usize) -> usize {
+    if at < line.len() {
+        return bytes::scan::find(line, at + 1, line.len(), b' ');
+    }
+    line.len()
+}
+
+// Where the fourth field ends.
+fn fields_end(line: &[u8]) -> usize {
+    let first = bytes::scan::find(line, 0, line.len(), b' ');
+    let second = next_space(line, first);
+    let third = next_space(line, second);
+    next_space(line, third)
+}
+
+// The reading of a table and its text, under what an input line says.
+fn print_table(input: &[u8], fields: Fields, table: &[u32], text: &[u8]) {
+    let currency = fields.currency;
+    let identifier = fields.identifier;
+    printer::print_reading(
+        table,
+        text,
+        bytes_at(input, currency),
+        bytes_at(input, identifier),
+        fields.rules,
+        fields.mode,
+    );
+}
+
+// The parts of a case: input line, numbers, text, for which table and text are the space.
+fn print_parts(input: &[u8], numbers: &[u8], escaped: &[u8], table: &mut [u32], text: &mut [u8]) {
+    let line = inputs::parse_line(input);
+    let n = cases::numbers(numbers, table);
+    let m = cases::fill(escaped, 0, text);
+    if n <= table.len() {
+        match line {
+            Line::Fit(fields) => print_table(input, fields, &table[0..n], text::clip(text, 0, m)),
+            Line::Unfit => print_unfit(),
+        }
+        return;
+    }
+    print_unfit();
+}
+
+fn print_case(line: &[u8], table: &mut [u32], text: &mut [u8]) {
+    let end = line.len();
+    let head = fields_end(line);
+    if end <= head {
+        print_unfit();
+        return;
+    }
+    let colon = bytes::scan::find(line, head, end, b':');
+    if end <= colon {
+        print_unfit();
+        return;
+    }
+    let from = head + 1;
+    if colon <= from {
+        print_unfit();
+        return;
+    }
+    let to = colon - 1;
+    let after = colon + 1;
+    print_parts(
+        &line[0..head],
+        &line[from..to],
+        &line[after..],
+        table,
+        text,
+    );
+}
+
+// Each line of the input, of which the last may lack its line feed.
+fn print_cases(input: &[u8], table: &mut [u32], text: &mut [u8]) {
+    let mut from = 0;
+    while from < input.len() {
+        let end = bytes::scan::find(input, from, input.len(), b'\n');
+        print_case(&input[from..end], table, text);
+        io::write_all(STDOUT, b"\n");
+        from = end + 1;
+    }
+}
+
+fn main() {
+    let mut input = [0u8; 524288];
+    let mut table = [0u32; 1536];
+    let mut text = [0u8; 65536];
+    let n = io::read_full(STDIN, &mut input);
+    print_cases(&input[..n], &mut table, &mut text);
+}
