@@ -72,3 +72,10 @@ module _ (s : List ℕ) (a n : ℤ) (fa : SFits w64 a) where
       pub there : (r : List ℕ) → r ≡ partOf s (natAbs (toZ w64 (ofZ w64 a))) (natAbs (toZ w64 (ofZ w64 n))) → r ≡ shownAt s a n
       unfolding shownAt
       there r e = rw (above fa ea .1, above fn en .1) (rw (toZ-ofZ fa, toZ-ofZ fn, above fa ea .1, above fn en .1) at e)
+
+-- where nothing is there, nothing is shown
+pub not-there : (s : List ℕ) (a n : ℤ) → lies s a n ≡ false → shownAt s a n ≡ []
+unfolding lies shownAt partOf
+not-there s (pos a) (pos n) e = rw e
+not-there s (pos a) (negsuc n) e = refl
+not-there s (negsuc a) n e = refl
