@@ -27,7 +27,7 @@ use Rattle.reader.specs.declared.answer.Answer as Code
 use Rattle.reader.specs.declared.answer.Terms as CodeTerms
 use Rattle.rulzhamm.specs.Called.{Called}
 use Rattle.rulzhamm.specs.Parts.{plainCells, paymentCells, countCells, answerCells, Small}
-use Rattle.rulzhamm.proofs.Sizes.{place-small, counts-small}
+use Rattle.settlement.proofs.Sizes.{place-small, counts-small}
 
 -- lists one after the other, the later ones put together first
 regroup : (p a b c d e m x y t : List ℤ) → p ++ (a ++ (b ++ ((c ++ d ++ e) ++ (m ++ (x ++ (y ++ t)))))) ≡ p ++ a ++ b ++ c ++ d ++ e ++ m ++ x ++ y ++ t

@@ -26,3 +26,4 @@ pub mod Transfers
 pub mod FirstWins
 pub mod Edges
 pub mod Results
+pub mod Sizes
