@@ -81,13 +81,7 @@ fn print_case(line: &[u8], table: &mut [u32], text: &mut [u8]) {
     }
     let to = colon - 1;
     let after = colon + 1;
-    print_parts(
-        &line[0..head],
-        &line[from..to],
-        &line[after..],
-        table,
-        text,
-    );
+    print_parts(&line[0..head], &line[from..to], &line[after..], table, text);
 }
 
 // Each line of the input, of which the last may lack its line feed.
