@@ -44,7 +44,7 @@ pub fn bytes_at(text: &[u8], start: i64, length: i64) -> &[u8]
     bytes(new(text, start, length))
 }
 
-// The same question by way of a view.
+// Whether the value is there, by way of a view, for the same callers.
 pub fn is_there_at(text: &[u8], start: i64, length: i64) -> bool
     ensures { λ r. ⌜ r ≡ lies (now (text .entry)) start length ⌝ }
 {
