@@ -17,7 +17,7 @@ pub struct Next {
     pub count: usize,
 }
 
-// Fills in the payment that is lent by the payment means that is element n.
+// Fills in the payment that is lent, by the payment means that is element n.
 pub fn payment_means(
     table: &[u32],
     text: &[u8],

@@ -5,6 +5,7 @@ ghost use Rattle.view.specs.View.{lies, shownAt};
 use crate::place::is_shown;
 use crate::place::shown;
 
+// The lent text, and where the value starts and how long it is: -1 and 0 where it is absent.
 pub struct View<'a> {
     text: &'a [u8],
     start: i64,
@@ -29,7 +30,7 @@ pub fn bytes<'a>(v: View<'a>) -> &'a [u8]
     shown(v.text, v.start, v.length)
 }
 
-// Whether there are any: the place is present and inside the text.
+// Whether the value is there, empty or not: its place is present and inside the text.
 pub fn is_there<'a>(v: View<'a>) -> bool
     ensures { λ r. ⌜ r ≡ lies (now (v .entry .text)) (v .entry .start) (v .entry .length) ⌝ }
 {
@@ -43,7 +44,7 @@ pub fn bytes_at(text: &[u8], start: i64, length: i64) -> &[u8]
     bytes(new(text, start, length))
 }
 
-// The same question by way of a view.
+// Whether the value is there, by way of a view, for the same callers.
 pub fn is_there_at(text: &[u8], start: i64, length: i64) -> bool
     ensures { λ r. ⌜ r ≡ lies (now (text .entry)) start length ⌝ }
 {
