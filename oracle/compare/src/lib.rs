@@ -1,6 +1,7 @@
 //! The proved reader against the published Rust: settlements made up from seeds, laid out as tables,
 //! read by both, and compared by what the readings show.
 
+pub mod case;
 pub mod generate;
 pub mod layout;
 pub mod library;

@@ -1,21 +1,17 @@
 //! `cases FOLDER` writes a sample of made-up settlements as stored cases, FOLDER/cases.txt, with the
 //! published Rust's printed answers, FOLDER/answers.txt. It fails where the sample leaves out a message,
-//! path, term, kind of row or group that the Rust can show.
-//!
-//! A case is a line `MODE RULES CURRENCY IDENTIFIER NUMBERS.. :TEXT`; its answer is the lines of the
-//! printed reading and an empty line.
+//! path, term, kind of row or group that the Rust can show. An answer is the lines of the printed reading
+//! and an empty line.
 
 use compare::generate::{self, Document};
-use compare::layout::{self, Layout};
 use compare::print::printed;
-use compare::published;
 use compare::random::Random;
 use compare::tally::Tally;
 use compare::tree::Tree;
-use std::fmt::Write;
+use compare::{case, layout, lent, published};
 
 /// About how many bytes both files may have together.
-const BYTES: usize = 480_000;
+const BYTES: usize = 430_000;
 const MOST_RECORDS: usize = 200;
 
 fn main() {
@@ -42,7 +38,8 @@ fn main() {
             continue;
         }
         count += 1;
-        case(&mut cases, &d, &layout);
+        cases += &case::written(lent(&d), &layout);
+        cases.push('\n');
         answers.extend(printed(&reading));
         answers.push(b'\n');
         if cases.len() + answers.len() > BYTES {
@@ -60,20 +57,4 @@ fn lent_fits(d: &Document) -> bool {
     [&d.currency, &d.identifier].into_iter().flatten().all(|lent| {
         lent != "-" && !lent.starts_with(':') && lent.bytes().all(|b| b.is_ascii_graphic())
     })
-}
-
-fn case(out: &mut String, d: &Document, layout: &Layout) {
-    let lent = |s: &Option<String>| s.clone().unwrap_or("-".into());
-    write!(out, "0 {} {} {}", d.rules, lent(&d.currency), lent(&d.identifier)).expect("a string");
-    for number in &layout.table {
-        write!(out, " {number}").expect("a string");
-    }
-    out.push_str(" :");
-    for b in &layout.text {
-        match b {
-            b' '..=b'~' if *b != b'\\' => out.push(char::from(*b)),
-            _ => write!(out, "\\{b:02x}").expect("a string"),
-        }
-    }
-    out.push('\n');
 }
