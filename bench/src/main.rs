@@ -1,1 +1,83 @@
-fn main() {}
+//! `bench [worst]` measures the published Rust (from a parsed tree; parsing is not counted) and the proved
+//! reader (from a laid-out table) on the same settlements, in one run and one thread, and prints the rows
+//! of docs/PERFORMANCE.md. With `worst` it measures the worst accepted tables instead.
+
+mod clock;
+mod invoice;
+mod worst;
+
+use compare::generate::Document;
+use compare::layout;
+use compare::library::{self, Lists};
+use compare::tree::Tree;
+use compare::{lent, markup, published};
+
+const SIZES: [usize; 5] = [16, 64, 256, 1024, 4096];
+/// Batches, and about how many records are read in one.
+const REPETITIONS: usize = 400;
+const BATCH_RECORDS: usize = 8192;
+
+fn main() {
+    if std::env::args().nth(1).as_deref() == Some("worst") {
+        worst_tables();
+    } else {
+        invoices();
+    }
+}
+
+fn document(tree: &Tree) -> Document {
+    Document {
+        xml: markup::plain(tree),
+        currency: Some("EUR".into()),
+        identifier: Some("urn:cen.eu:en16931:2017".into()),
+        rules: 4095,
+    }
+}
+
+/// The Rust's time for a settlement.
+fn rust_time(d: &Document, repetitions: usize, batch: usize) -> f64 {
+    let xml = published::parse(&d.xml);
+    let node = published::find(&xml);
+    published::reading(node, d); // puts the rules number in force
+    clock::best(repetitions, batch, || original::settlement(node, d.currency.clone(), d.identifier.clone()))
+}
+
+/// The proved reader's time for a table.
+fn reader_time(layout: &layout::Layout, d: &Document, repetitions: usize, batch: usize) -> f64 {
+    let mut lists = Lists::of_records(layout.table.len() / 6);
+    let time = clock::best(repetitions, batch, || library::call(std::hint::black_box(layout), lent(d), &mut lists));
+    assert_eq!(lists.answer[0], 0, "an accepted table");
+    time
+}
+
+fn invoices() {
+    println!("| Records | Rust, ns a record | Rulzhamm, ns a record | Ratio |");
+    println!("|---|---|---|---|");
+    for records in SIZES {
+        let tree = invoice::settlement(records);
+        let d = document(&tree);
+        let layout = layout::plain(&tree);
+        let xml = published::parse(&d.xml);
+        let theirs = published::reading(published::find(&xml), &d);
+        let ours = library::reading(&layout, lent(&d)).expect("a reading");
+        assert_eq!(theirs.difference(&ours), None);
+        let batch = BATCH_RECORDS / records;
+        let rust = rust_time(&d, REPETITIONS, batch) / records as f64;
+        let reader = reader_time(&layout, &d, REPETITIONS, batch) / records as f64;
+        println!("| {records} | {rust:.1} | {reader:.1} | {:.2} |", reader / rust);
+    }
+}
+
+fn worst_tables() {
+    println!("| Table | Rust, ms | Rulzhamm, ms |");
+    println!("|---|---|---|");
+    for (worst, repetitions) in worst::all() {
+        let d = document(worst.tree.as_ref().unwrap_or(&Tree::leaf("ApplicableHeaderTradeSettlement", "")));
+        let rust = match worst.tree {
+            Some(_) => format!("{:.2}", rust_time(&d, repetitions, 1) / 1e6),
+            None => "-".into(),
+        };
+        let reader = reader_time(&worst.layout, &d, repetitions, 1) / 1e6;
+        println!("| {} | {rust} | {reader:.2} |", worst.name);
+    }
+}
