@@ -1,6 +1,7 @@
-//! `bench [worst]` measures the published Rust (from a parsed tree; parsing is not counted) and the proved
-//! reader (from a laid-out table) on the same settlements, in one run and one thread, and prints the rows
-//! of docs/PERFORMANCE.md. With `worst` it measures the worst accepted tables instead.
+//! `bench` measures the published Rust (from a parsed tree; parsing is not counted) and the proved reader
+//! (from a laid-out table) on the same settlements, in one run and one thread, and prints the rows of
+//! docs/PERFORMANCE.md. `bench worst` measures the worst accepted tables instead; `bench profile` runs the
+//! proved reader alone on a large invoice, for a profiler.
 
 mod clock;
 mod invoice;
@@ -18,10 +19,11 @@ const REPETITIONS: usize = 400;
 const BATCH_RECORDS: usize = 8192;
 
 fn main() {
-    if std::env::args().nth(1).as_deref() == Some("worst") {
-        worst_tables();
-    } else {
-        invoices();
+    match std::env::args().nth(1).as_deref() {
+        None => invoices(),
+        Some("worst") => worst_tables(),
+        Some("profile") => profile(),
+        Some(_) => panic!("usage: bench [worst | profile]"),
     }
 }
 
@@ -66,6 +68,12 @@ fn invoices() {
         let reader = reader_time(&layout, &d, REPETITIONS, batch) / records as f64;
         println!("| {records} | {rust:.1} | {reader:.1} | {:.2} |", reader / rust);
     }
+}
+
+fn profile() {
+    let tree = invoice::settlement(SIZES[4]);
+    let time = reader_time(&layout::plain(&tree), &document(&tree), 1, 10_000);
+    println!("{:.1} ns a record", time / SIZES[4] as f64);
 }
 
 fn worst_tables() {
