@@ -1,7 +1,7 @@
 //! `bench` measures the published Rust (from a parsed tree; parsing is not counted) and the proved reader
 //! (from a laid-out table) on the same settlements, in one run and one thread, and prints the rows of
-//! docs/PERFORMANCE.md. `bench worst` measures the worst accepted tables instead; `bench profile` runs the
-//! proved reader alone on a large invoice, for a profiler.
+//! docs/PERFORMANCE.md. `bench worst [N]` measures the worst accepted tables instead, or the Nth alone;
+//! `bench profile` runs the proved reader alone on a large invoice, for a profiler.
 
 mod clock;
 mod invoice;
@@ -12,6 +12,7 @@ use compare::layout;
 use compare::library::{self, Lists};
 use compare::tree::Tree;
 use compare::{lent, markup, published};
+use worst::Worst;
 
 const SIZES: [usize; 5] = [16, 64, 256, 1024, 4096];
 /// Batches, and about how many records are read in one.
@@ -19,11 +20,13 @@ const REPETITIONS: usize = 400;
 const BATCH_RECORDS: usize = 8192;
 
 fn main() {
-    match std::env::args().nth(1).as_deref() {
-        None => invoices(),
-        Some("worst") => worst_tables(),
-        Some("profile") => profile(),
-        Some(_) => panic!("usage: bench [worst | profile]"),
+    let given: Vec<String> = std::env::args().skip(1).collect();
+    match given.iter().map(String::as_str).collect::<Vec<_>>()[..] {
+        [] => invoices(),
+        ["worst"] => worst_tables(worst::all()),
+        ["worst", n] => worst_tables(vec![worst::all().swap_remove(n.parse::<usize>().expect("a number") - 1)]),
+        ["profile"] => profile(),
+        _ => panic!("usage: bench [worst [N] | profile]"),
     }
 }
 
@@ -76,10 +79,10 @@ fn profile() {
     println!("{:.1} ns a record", time / SIZES[4] as f64);
 }
 
-fn worst_tables() {
+fn worst_tables(tables: Vec<(Worst, usize)>) {
     println!("| Table | Rust, ms | Rulzhamm, ms |");
     println!("|---|---|---|");
-    for (worst, repetitions) in worst::all() {
+    for (worst, repetitions) in tables {
         let d = document(worst.tree.as_ref().unwrap_or(&Tree::leaf("ApplicableHeaderTradeSettlement", "")));
         let rust = match worst.tree {
             Some(_) => format!("{:.2}", rust_time(&d, repetitions, 1) / 1e6),

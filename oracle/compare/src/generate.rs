@@ -79,22 +79,26 @@ struct Maker<'r> {
 
 impl Maker<'_> {
     fn settlement(&mut self, size: usize) -> Tree {
-        let mut children = Vec::new();
+        let mut settlement = Tree::group("ApplicableHeaderTradeSettlement", Vec::new());
         let mut records = 1;
+        let mut add = |child: Tree| {
+            records += child.records();
+            if records <= MOST_RECORDS {
+                settlement.children.push(child);
+            }
+            records < size
+        };
         if self.random.chance(20) {
             // one of each, in the order of the schema
-            children.extend(SETTLEMENT.iter().map(|(name, part)| self.element(name, *part)));
-            records += children.iter().map(Tree::records).sum::<usize>();
-        }
-        while records < size {
-            let child = self.child(SETTLEMENT);
-            records += child.records();
-            if records > MOST_RECORDS {
-                break;
+            for (name, part) in SETTLEMENT {
+                add(self.element(name, *part));
             }
-            children.push(child);
         }
-        Tree::group("ApplicableHeaderTradeSettlement", children)
+        let mut more = size > 1;
+        while more {
+            more = add(self.child(SETTLEMENT));
+        }
+        settlement
     }
 
     /// A child of a group: one of its own, or seldom a stranger.
@@ -202,7 +206,7 @@ impl Maker<'_> {
             }
         }
         if self.wide > 0 && name.starts_with("SpecifiedTradeSettlement") {
-            for _ in 0..self.random.below(self.wide) / 2 {
+            for _ in 0..self.random.below(self.wide) / 4 {
                 children.push(self.child(parts));
             }
             self.wide = 0;

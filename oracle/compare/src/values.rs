@@ -1,6 +1,7 @@
 //! Texts for the generator: amounts, percentages, dates, codes and free texts, sound or damaged.
 
 use crate::random::Random;
+use original::en16931::codes::generated::CURRENCY_CODES;
 
 /// White space of Unicode, and characters beside it that are none.
 const WHITE: &[&str] = &[
@@ -69,6 +70,12 @@ fn scrawl(random: &mut Random, alphabet: &[u8], most: usize) -> String {
 }
 
 pub fn currency(random: &mut Random, damage: usize) -> String {
+    if random.chance(5) {
+        return random.pick(CURRENCY_CODES).into();
+    }
+    if random.chance(damage / 3) {
+        return scrawl(random, b"ABCDEFGHIJKLMNOPQRSTUVWXYZ", 4);
+    }
     sound_or(random, damage, CURRENCIES, NO_CURRENCIES)
 }
 
