@@ -31,15 +31,15 @@ fn many(count: usize, child: impl Fn(usize) -> Tree) -> Vec<Tree> {
 /// Thousands of children of one name, each read.
 fn one_name() -> Worst {
     let taxes = many(RECORDS - 1, |_| Tree::leaf("ApplicableTradeTax", ""));
-    of_tree("4,095 empty taxes, four entries each", settlement(taxes))
+    of_tree("4,095 empty taxes, three entries each", settlement(taxes))
 }
 
 /// Every child of an optional amount's name reads the first such child again, which stands behind half of
 /// all children, each with a name that differs in its last letter.
 fn repeated_amount() -> Worst {
     let half = (RECORDS - 2) / 2;
-    let mut children = many(half, |_| Tree::leaf("RoundingAmounT", "1"));
-    children.extend(many(half, |_| Tree::leaf("RoundingAmount", "1")));
+    let mut children = many(half, |_| Tree::leaf("AllowanceTotalAmounT", "1"));
+    children.extend(many(half, |_| Tree::leaf("AllowanceTotalAmount", "1")));
     of_tree("2,047 optional amounts behind 2,047 others", settlement(vec![Tree::group(SUMMATION, children)]))
 }
 
@@ -54,13 +54,12 @@ fn falling_names() -> Worst {
     of_tree("4,095 unmapped names of 244 bytes, falling", settlement(names))
 }
 
-/// Records 1 on, each made by `record`, over a text that begins with the settlement's name and goes on
-/// with one letter.
-fn over_one_text(name: &'static str, letter: u8, record: impl Fn(u32) -> [u32; 6]) -> Worst {
-    let mut text = SETTLEMENT.as_bytes().to_vec();
-    text.extend_from_slice(SUMMATION.as_bytes());
-    text.extend_from_slice(b"TaxTotalAmount");
-    text.resize(BYTES, letter);
+/// Records 1 on, each made by `record`, over a text that begins with three names and goes on with one
+/// letter of one or two bytes.
+fn over_one_text(name: &'static str, letter: &str, record: impl Fn(u32) -> [u32; 6]) -> Worst {
+    let mut text = [SETTLEMENT, SUMMATION, "TaxTotalAmount", "PaymentReference"].concat().into_bytes();
+    assert_eq!(text.len(), LETTERS as usize);
+    text.extend(letter.bytes().cycle().take(LENGTH as usize));
     let mut table = vec![1, 0, 0, SETTLEMENT.len() as u32, 0, 0];
     for i in 1..RECORDS as u32 {
         table.extend(record(i));
@@ -69,32 +68,34 @@ fn over_one_text(name: &'static str, letter: u8, record: impl Fn(u32) -> [u32; 6
 }
 
 /// Where the one letter begins, and how often it stands there.
-const LETTERS: u32 = 31 + 47 + 14;
+const LETTERS: u32 = 31 + 47 + 14 + 16;
 const LENGTH: u32 = BYTES as u32 - LETTERS;
 
-fn long_texts() -> Worst {
+/// Numbers to parse.
+fn long_amounts() -> Worst {
     let amount = |i| match i {
         1 => [1, 0, 31, 47, LETTERS, LENGTH],
         _ => [1, 1, 31 + 47, 14, LETTERS, LENGTH],
     };
-    over_one_text("4,094 tax totals of a million digits, one text", b'0', amount)
+    over_one_text("4,094 tax totals of a million digits, one text", "0", amount)
 }
 
-/// Names and texts nearly as long as the text; each name is the beginning of the one before it.
-fn long_names() -> Worst {
-    let record = |i| [1, 0, LETTERS, LENGTH - i, LETTERS, LENGTH];
-    over_one_text("4,095 unmapped names of a million bytes, falling, one text", b'N', record)
+/// White space to trim.
+fn long_blanks() -> Worst {
+    let reference = |_| [1, 0, 31 + 47 + 14, 16, LETTERS, LENGTH];
+    over_one_text("4,095 references of a million white bytes, one text", "\u{A0}", reference)
 }
 
-/// The same in letters of two bytes, which take longer to check.
+/// Only spans to check: attributes that nobody reads.
 fn long_spans() -> Worst {
-    let mut worst = over_one_text("4,095 spans of a million bytes outside ASCII, one text", b'N', |_| {
-        [2, 0, LETTERS, LENGTH & !1, LETTERS, LENGTH & !1]
-    });
-    for (i, b) in worst.layout.text[LETTERS as usize..].iter_mut().enumerate() {
-        *b = if i % 2 == 0 { 0xC3 } else { 0xA4 };
-    }
-    worst
+    let attribute = |_| [2, 0, LETTERS, LENGTH, LETTERS, LENGTH];
+    over_one_text("8,190 spans of a million bytes outside ASCII, one text", "ä", attribute)
+}
+
+/// Each name is the beginning of the one before it.
+fn long_names() -> Worst {
+    let element = |i| [1, 0, LETTERS, LENGTH - i, LETTERS, LENGTH];
+    over_one_text("4,095 unmapped names of a million bytes, falling, one text", "N", element)
 }
 
 /// All of them, with how often each is run.
@@ -104,7 +105,8 @@ pub fn all() -> Vec<(Worst, usize)> {
         (repeated_amount(), 20),
         (tax_totals(), 50),
         (falling_names(), 20),
-        (long_texts(), 1),
+        (long_amounts(), 1),
+        (long_blanks(), 1),
         (long_spans(), 1),
         (long_names(), 1),
     ]
