@@ -49,7 +49,7 @@ fn tax(i: usize) -> Tree {
             leaf("BasisAmount", &format!("{}.00", 1225 + i)),
             leaf("CategoryCode", "S"),
             leaf("DueDateTypeCode", "5"),
-            leaf("RateApplicablePercent", if i % 2 == 0 { "19.00" } else { "7" }),
+            leaf("RateApplicablePercent", if i.is_multiple_of(2) { "19.00" } else { "7" }),
         ],
     )
 }
@@ -59,7 +59,7 @@ fn allowance_charge(i: usize) -> Tree {
     group(
         "SpecifiedTradeAllowanceCharge",
         [
-            group("ChargeIndicator", [leaf("Indicator", if i % 3 == 0 { "true" } else { "false" })]),
+            group("ChargeIndicator", [leaf("Indicator", if i.is_multiple_of(3) { "true" } else { "false" })]),
             leaf("CalculationPercent", "2.00"),
             leaf("BasisAmount", "1250.00").with("currencyID", "EUR"),
             leaf("ActualAmount", "25.00"),

@@ -55,9 +55,7 @@ pub fn sized(random: &mut Random, size: usize) -> Document {
     let lent = maker.random.chance(80);
     Document {
         xml: markup::write(&settlement, random),
-        currency: lent
-            .then(|| values::currency(random, 10))
-            .filter(|c| !c.is_empty()),
+        currency: lent.then(|| values::currency(random, 10)).filter(|c| !c.is_empty()),
         identifier: random.chance(80).then(|| random.pick(IDENTIFIERS).into()),
         rules: match random.below(4) {
             0 => 4095,

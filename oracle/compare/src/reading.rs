@@ -65,12 +65,10 @@ impl Reading {
     /// The first difference from `other`, if there is one. The order of making is compared only
     /// where both know it.
     pub fn difference(&self, other: &Self) -> Option<String> {
-        self.difference_but_entries(other)
-            .or_else(|| first("entry", &self.entries, &other.entries))
-            .or_else(|| {
-                let known = !self.order.is_empty() && !other.order.is_empty();
-                first("order", &self.order, &other.order).filter(|_| known)
-            })
+        self.difference_but_entries(other).or_else(|| first("entry", &self.entries, &other.entries)).or_else(|| {
+            let known = !self.order.is_empty() && !other.order.is_empty();
+            first("order", &self.order, &other.order).filter(|_| known)
+        })
     }
 
     /// The first difference that document 01's demand 3 rules out: terms, rows of each kind and

@@ -47,10 +47,7 @@ const PAYMENT_MEANS: &[(&str, Part)] = &[
     ("Information", Text),
     ("ApplicableTradeSettlementFinancialCard", Group(&[("ID", Text), ("CardholderName", Text)])),
     ("PayerPartyDebtorFinancialAccount", Group(&[("IBANID", Text), ("ProprietaryID", Text)])),
-    (
-        "PayeePartyCreditorFinancialAccount",
-        Group(&[("IBANID", Text), ("AccountName", Text), ("ProprietaryID", Text)]),
-    ),
+    ("PayeePartyCreditorFinancialAccount", Group(&[("IBANID", Text), ("AccountName", Text), ("ProprietaryID", Text)])),
     ("PayeeSpecifiedCreditorFinancialInstitution", Group(&[("BICID", Text)])),
 ];
 
@@ -84,8 +81,7 @@ const ALLOWANCE_CHARGE: &[(&str, Part)] = &[
 const LOGISTICS_CHARGE: &[(&str, Part)] =
     &[("Description", Text), ("AppliedAmount", Amount), ("AppliedTradeTax", CATEGORY_TAX)];
 
-const TERMS: &[(&str, Part)] =
-    &[("Description", Text), ("DueDateDateTime", Date), ("DirectDebitMandateID", Text)];
+const TERMS: &[(&str, Part)] = &[("Description", Text), ("DueDateDateTime", Date), ("DirectDebitMandateID", Text)];
 
 pub const SUMMATION: &[(&str, Part)] = &[
     ("LineTotalAmount", Amount),

@@ -54,7 +54,8 @@ fn main() {
 
 /// Whether what is lent can stand in the line as it is: visible, and not taken for none or for the text.
 fn lent_fits(d: &Document) -> bool {
-    [&d.currency, &d.identifier].into_iter().flatten().all(|lent| {
-        lent != "-" && !lent.starts_with(':') && lent.bytes().all(|b| b.is_ascii_graphic())
-    })
+    [&d.currency, &d.identifier]
+        .into_iter()
+        .flatten()
+        .all(|lent| lent != "-" && !lent.starts_with(':') && lent.bytes().all(|b| b.is_ascii_graphic()))
 }
