@@ -12,6 +12,7 @@ import sys
 from model import MEANS, SETTLEMENT, SUMMATION, answer, parse_case, refusal
 
 NBSP = "\u00a0"
+MOST = 4294967295
 
 
 # ---- writing tables
@@ -69,13 +70,14 @@ def refusals():
         yield mode, rules, (table, text)
     for tables in ([], table[:1], table[:5], table + [1], [0] * 7):
         yield 0, 0, (tables, text)
-    for field, value in ((0, 0), (0, 2), (0, 3), (1, 1), (1, 4294967295)):
+    for field, value in ((0, 0), (0, 2), (0, 3), (1, 1), (1, MOST)):
         yield 0, 0, (changed(table, 0, field, value), text)
-    for record, field, value in ((1, 0, 0), (3, 0, 3), (3, 0, 4294967295), (1, 1, 1), (2, 1, 3), (3, 1, 2), (3, 1, 4294967295)):
+    misplaced = ((1, 0, 0), (3, 0, 3), (3, 0, MOST), (1, 1, 1), (2, 1, 3), (3, 1, 2), (3, 1, MOST))
+    for record, field, value in misplaced:
         yield 0, 0, (changed(table, record, field, value), text)
     for record in range(4):
         for field in (2, 4):
-            for start, length in ((end, 1), (end + 1, 0), (0, end + 1), (4294967295, 4294967295), (1, 4294967295)):
+            for start, length in ((end, 1), (end + 1, 0), (0, end + 1), (MOST, MOST), (1, MOST)):
                 yield 0, 0, (changed(changed(table, record, field, start), record, field + 1, length), text)
             for start, length in ((0, 1), (1, 1), (2, 1), (3, 3), (6, 2), (8, 4), (12, 2)):
                 yield 0, 0, (changed(changed(table, record, field, odd + start), record, field + 1, length), text)
@@ -104,7 +106,8 @@ def rate(text):
 def dates(text, **attributes):
     day = lambda spelling: element(spelling, text, **attributes)
     point = element("ApplicableTradeTax", "", element("TaxPointDate", "", day("DateString")))
-    return settlement(point, element("SpecifiedTradePaymentTerms", "", element("DueDateDateTime", "", day("DateTimeString"))))
+    due = element("DueDateDateTime", "", day("DateTimeString"))
+    return settlement(point, element("SpecifiedTradePaymentTerms", "", due))
 
 
 def modes():
@@ -154,50 +157,62 @@ def edges():
 
 
 def schemes():
-    for attributes in ({"schemeID": ""}, {"listID": ""}, {"schemeID": "", "listID": "x"}, {"listID": "x"}, {"schemeID": " 0088 "}):
-        yield 0, 0, laid(settlement(element("PayeeTradeParty", "", element("GlobalID", "", **attributes), element("ID", "1"))))
+    blank, both = {"schemeID": ""}, {"schemeID": "", "listID": "x"}
+    for attributes in (blank, {"listID": ""}, both, {"listID": "x"}, {"schemeID": " 0088 "}):
+        identifiers = element("GlobalID", "", **attributes), element("ID", "1")
+        yield 0, 0, laid(settlement(element("PayeeTradeParty", "", *identifiers)))
 
 
 def odd_tables():
-    account = "PayeePartyCreditorFinancialAccount"
-    table, text = laid(settlement(element(MEANS, "", element(account, "", element("IBANID", "DE1")))))
     # record 0 with a text and attributes; children of a leaf
-    yield 0, 0, laid(element(SETTLEMENT, "text", element("PaymentReference", "1", element("ID", "2"), x="y"), currencyID="EUR"))
-    # an element of the same name as the settlement, an empty name, names beside names
-    yield 0, 0, laid(settlement(element(SETTLEMENT, "x"), element("", "y"), element("PaymentReferenc", ""), element("PaymentReferences", "")))
-    yield 0, 0, laid(settlement(element(MEANS, "", element("")), element(SUMMATION, "", element("")), element("", "", element(""))))
-    # two attributes of one name: the earlier counts; an attribute without a name
-    table, text = laid(settlement(element(SUMMATION, "", element("TaxTotalAmount", "1"))))
-    text += b"currencyIDEURUSD"
-    at = len(text)
-    currency = lambda start: [2, 2, at - 16, 10, start, 3]
-    yield 0, 0, (table + currency(at - 6) + currency(at - 3), text)
-    yield 0, 0, (table + currency(at - 3) + currency(at - 6), text)
-    yield 0, 0, (table + [2, 2, at, 0, at - 3, 3] + currency(at - 3), text)
-    # an attribute of record 0 counts for no child
-    yield 0, 0, (table + changed(currency(at - 3), 0, 1, 0), text)
-    # an empty currencyID that hides a later one
-    yield 0, 0, (table + changed(currency(at - 3), 0, 5, 0) + currency(at - 3), text)
-    # children of two parents in turns, attributes far from their elements
-    text = (SETTLEMENT + "PayeeTradePartyNameIDschemeID").encode()
-    root, party = [1, 0, 0, 31, 0, 0], [1, 0, 31, 15, 0, 0]
-    name, number = [46, 4, 31, 5], [50, 2, 0, 5]
-    yield 0, 0, (root + party + party + [1, 2] + number + [1, 1] + name + [1, 2] + name + [1, 1] + number + [2, 6, 52, 8, 50, 2] + [2, 3, 52, 8, 46, 4], text)
-    # overlapping places, one text for all, places at the text's end, empty places anywhere
-    yield 0, 0, (root + [1, 0, 0, 10, 5, 10] + [1, 0, 5, 10, 0, 10] + [1, 0, 0, 10, 60, 0], text)
-    yield 0, 0, (root + [1, 0, 60, 0, 60, 0] + [1, 0, 31, 0, 0, 60] + [2, 0, 60, 0, 60, 0], text)
-    yield 0, 0, (root + [1, 0, 31, 0, 0, 60], text)
+    reference = element("PaymentReference", "1", element("ID", "2"), x="y")
+    yield 0, 0, laid(element(SETTLEMENT, "text", reference, currencyID="EUR"))
+    # an element of the settlement's name, an empty name, names beside names, empty names everywhere
+    near = [element(name, "x") for name in (SETTLEMENT, "", "PaymentReferenc", "PaymentReferences")]
+    yield 0, 0, laid(settlement(*near))
+    yield 0, 0, laid(settlement(*(element(name, "", element("")) for name in (MEANS, SUMMATION, ""))))
+    yield from odd_attributes()
+    yield from odd_places()
     # bytes below 32, a text that is a dash, and one that is white to its end
-    yield 0, 0, laid(settlement(element("PaymentReference", "a\0b\x1fc\td\n"), element("InvoiceCurrencyCode", "-"), element("Foo\t", "")))
-    yield 0, 0, laid(settlement(element("PaymentReference", "\x0b\x0c\u0085\u2028\u3000x\u200b"), element("TaxCurrencyCode", "\x1c\x1d")))
+    texts = element("PaymentReference", "a\0b\x1fc\td\n"), element("InvoiceCurrencyCode", "-"), element("Foo\t", "")
+    yield 0, 0, laid(settlement(*texts))
+    spaces = element("PaymentReference", "\x0b\x0c\u0085\u2028\u3000x\u200b"), element("TaxCurrencyCode", "\x1c\x1d")
+    yield 0, 0, laid(settlement(*spaces))
     # an element ninety deep
     deep = element("Foo", "")
     for _ in range(90):
         deep = element("Foo", "", deep)
     yield 0, 0, laid(settlement(deep))
     # names in falling order, each twice
-    names = ["Name%02d" % (n // 2) for n in range(60, 0, -1)]
-    yield 0, 0, laid(settlement(*(element(n) for n in names), element(MEANS, "", *(element(n) for n in names))))
+    names = [element("Name%02d" % (n // 2)) for n in range(60, 0, -1)]
+    yield 0, 0, laid(settlement(*names, element(MEANS, "", *names)))
+
+
+def odd_attributes():
+    table, text = laid(settlement(element(SUMMATION, "", element("TaxTotalAmount", "1"))))
+    text += b"currencyIDEURUSD"
+    at = len(text)
+    euro, dollar = ([2, 2, at - 16, 10, start, 3] for start in (at - 6, at - 3))
+    # two of one name: the earlier counts, also an empty one
+    yield 0, 0, (table + euro + dollar, text)
+    yield 0, 0, (table + dollar + euro, text)
+    yield 0, 0, (table + changed(dollar, 0, 5, 0) + dollar, text)
+    # one without a name; one of record 0, which counts for no child
+    yield 0, 0, (table + [2, 2, at, 0, at - 3, 3] + dollar, text)
+    yield 0, 0, (table + changed(dollar, 0, 1, 0), text)
+
+
+def odd_places():
+    text = (SETTLEMENT + "PayeeTradePartyNameIDschemeID").encode()
+    root, party = [1, 0, 0, 31, 0, 0], [1, 0, 31, 15, 0, 0]
+    name, number = [46, 4, 31, 5], [50, 2, 0, 5]
+    # children of two parents in turns, attributes far from their elements
+    children = [1, 2] + number + [1, 1] + name + [1, 2] + name + [1, 1] + number
+    yield 0, 0, (root + party + party + children + [2, 6, 52, 8, 50, 2] + [2, 3, 52, 8, 46, 4], text)
+    # overlapping places, one text for all, places at the text's end, empty places anywhere
+    yield 0, 0, (root + [1, 0, 0, 10, 5, 10] + [1, 0, 5, 10, 0, 10] + [1, 0, 0, 10, 60, 0], text)
+    yield 0, 0, (root + [1, 0, 60, 0, 60, 0] + [1, 0, 31, 0, 0, 60] + [2, 0, 60, 0, 60, 0], text)
+    yield 0, 0, (root + [1, 0, 31, 0, 0, 60], text)
 
 
 def cases():

@@ -6,6 +6,7 @@
 Mode 1, message 7 and the refusals have no Rust to compare with, so their answers come from here; on
 all other cases this model must print what the Rust printed.
 """
+import json
 import os
 import re
 import sys
@@ -13,17 +14,13 @@ import sys
 SETTLEMENT = "ApplicableHeaderTradeSettlement"
 SUMMATION = "SpecifiedTradeSettlementHeaderMonetarySummation"
 MEANS = "SpecifiedTradeSettlementPaymentMeans"
-RULES = ["BR-12", "BR-13", "BR-14", "BR-15", "BR-31", "BR-32", "BR-36", "BR-37", "BR-45", "BR-46", "BR-47", "BR-55"]
-REQUIRED = dict(zip(["BT-106", "BT-109", "BT-112", "BT-115", "BT-92", "BT-95", "BT-99", "BT-102", "BT-116", "BT-117", "BT-118", "BT-25"], RULES))
-WHITE = "".join(map(chr, [*range(9, 14), 32, 0x85, 0xA0, 0x1680, *range(0x2000, 0x200B), 0x2028, 0x2029, 0x202F, 0x205F, 0x3000]))
-
-
-def currencies():
-    import json
-    return {c["alpha_3"] for c in json.load(open("/usr/share/iso-codes/json/iso_4217.json"))["4217"]}
-
-
-CURRENCIES = currencies()
+RULES = ["BR-%d" % n for n in (12, 13, 14, 15, 31, 32, 36, 37, 45, 46, 47, 55)]
+# the term that each rule requires
+REQUIRED = dict(zip(("BT-%d" % n for n in (106, 109, 112, 115, 92, 95, 99, 102, 116, 117, 118, 25)), RULES))
+SPACES = [*range(9, 14), 32, 0x85, 0xA0, 0x1680, *range(0x2000, 0x200B), 0x2028, 0x2029, 0x202F, 0x205F, 0x3000]
+WHITE = "".join(map(chr, SPACES))
+with open("/usr/share/iso-codes/json/iso_4217.json") as f:
+    CURRENCIES = {c["alpha_3"] for c in json.load(f)["4217"]}
 
 
 # ---- refusals
@@ -260,7 +257,8 @@ class Reading:
             self.say(19 if raw is None else 18, n.name + "/ChargeIndicator/Indicator", None, raw)
         kind = 4 if raw in ("true", "1") else 3
         group = "BG-%d[%d]/BT-" % (21 if kind == 4 else 20, self.count[kind])
-        amount, base, percent, category, rate = (group + t for t in (("99", "100", "101", "102", "103") if kind == 4 else ("92", "93", "94", "95", "96")))
+        first = 99 if kind == 4 else 92
+        amount, base, percent, category, rate = (group + str(first + i) for i in range(5))
         vat = self.category_and_rate(n, "CategoryTradeTax", category, rate)
         value = self.required_amount(n, SETTLEMENT + "/" + n.name, "ActualAmount", amount)
         base = self.amount(n, "BasisAmount", base)
@@ -336,8 +334,18 @@ class Reading:
 
     def summation(self, n):
         self.summed = True
-        optional = {"ChargeTotalAmount": "BT-108", "AllowanceTotalAmount": "BT-107", "RoundingAmount": "BT-114", "TotalPrepaidAmount": "BT-113"}
-        required = {"LineTotalAmount": "BT-106", "TaxBasisTotalAmount": "BT-109", "GrandTotalAmount": "BT-112", "DuePayableAmount": "BT-115"}
+        optional = {
+            "ChargeTotalAmount": "BT-108",
+            "AllowanceTotalAmount": "BT-107",
+            "RoundingAmount": "BT-114",
+            "TotalPrepaidAmount": "BT-113",
+        }
+        required = {
+            "LineTotalAmount": "BT-106",
+            "TaxBasisTotalAmount": "BT-109",
+            "GrandTotalAmount": "BT-112",
+            "DuePayableAmount": "BT-115",
+        }
         for term in (*optional.values(), "BT-110", "BT-111"):
             self.terms[term] = None
         for c in n.kids:

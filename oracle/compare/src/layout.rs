@@ -1,5 +1,6 @@
 //! From a tree to a table of records and its text (document 01, "From the tree to the table").
 
+use crate::generate::MOST_RECORDS;
 use crate::random::Random;
 use crate::tree::Tree;
 use std::collections::HashMap;
@@ -61,7 +62,7 @@ fn in_document_order<'t>(records: &mut Vec<Record<'t>>, parent: usize, tree: &'t
 /// Records in any order that keeps parents before children and siblings in order. An attribute stands
 /// anywhere after its element, and some are followed by another of the same name, which counts nothing.
 fn shuffled<'t>(records: &mut Vec<Record<'t>>, tree: &'t Tree, random: &mut Random) {
-    let mut room = 4096 - tree.records().min(4096);
+    let mut room = MOST_RECORDS.saturating_sub(tree.records());
     let mut ready = vec![Next::Sibling(0, std::slice::from_ref(tree))];
     while !ready.is_empty() {
         let own = records.len();
