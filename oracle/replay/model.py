@@ -1,10 +1,11 @@
 #!/usr/bin/env python3
-"""A reader of tables, written from document 01 alone: the answers to cases that the Rust cannot give.
+"""A reader of tables, written from document 01 and docs/DECISIONS.md: answers that the Rust cannot give.
 
     python3 oracle/replay/model.py    runs it on the stored cases and compares with the stored answers
 
 Mode 1, message 7 and the refusals have no Rust to compare with, so their answers come from here; on
-all other cases this model must print what the Rust printed.
+all other cases this model must print what the Rust printed. It shares no code with either reader, but its
+author knew the Rust, so that on what the papers leave open it is no second opinion.
 """
 import json
 import os
