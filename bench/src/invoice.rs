@@ -1,0 +1,116 @@
+//! A printer's invoice as a settlement of exactly so many records: payment, terms, VAT and totals first,
+//! then ever more taxes, allowances, charges and preceding invoices, as a collective invoice has them.
+
+use compare::tree::Tree;
+
+fn leaf(name: &str, text: &str) -> Tree {
+    Tree::leaf(name, text)
+}
+
+fn group(name: &str, children: impl Into<Vec<Tree>>) -> Tree {
+    Tree::group(name, children.into())
+}
+
+fn date(name: &str, text: &str) -> Tree {
+    group(name, [leaf("DateTimeString", text).with("format", "102")])
+}
+
+/// The part that every invoice has: 16 records with the settlement.
+fn core() -> Vec<Tree> {
+    vec![
+        leaf("PaymentReference", "RG-2024-004711"),
+        leaf("InvoiceCurrencyCode", "EUR"),
+        group(
+            "SpecifiedTradeSettlementPaymentMeans",
+            [
+                leaf("TypeCode", "58"),
+                group("PayeePartyCreditorFinancialAccount", [leaf("IBANID", "DE02120300000000202051")]),
+            ],
+        ),
+        group("SpecifiedTradePaymentTerms", [date("DueDateDateTime", "20240315")]),
+        group(
+            "SpecifiedTradeSettlementHeaderMonetarySummation",
+            [
+                leaf("LineTotalAmount", "1250.00"),
+                leaf("TaxBasisTotalAmount", "1225.00"),
+                leaf("GrandTotalAmount", "1457.75"),
+                leaf("DuePayableAmount", "1457.75"),
+            ],
+        ),
+    ]
+}
+
+fn tax(i: usize) -> Tree {
+    group(
+        "ApplicableTradeTax",
+        [
+            leaf("CalculatedAmount", &format!("{}.75", 232 + i)),
+            leaf("TypeCode", "VAT"),
+            leaf("BasisAmount", &format!("{}.00", 1225 + i)),
+            leaf("CategoryCode", "S"),
+            leaf("DueDateTypeCode", "5"),
+            leaf("RateApplicablePercent", if i.is_multiple_of(2) { "19.00" } else { "7" }),
+        ],
+    )
+}
+
+fn allowance_charge(i: usize) -> Tree {
+    let vat = [leaf("TypeCode", "VAT"), leaf("CategoryCode", "S"), leaf("RateApplicablePercent", "19.00")];
+    group(
+        "SpecifiedTradeAllowanceCharge",
+        [
+            group("ChargeIndicator", [leaf("Indicator", if i.is_multiple_of(3) { "true" } else { "false" })]),
+            leaf("CalculationPercent", "2.00"),
+            leaf("BasisAmount", "1250.00").with("currencyID", "EUR"),
+            leaf("ActualAmount", "25.00"),
+            leaf("ReasonCode", "95"),
+            leaf("Reason", "Discount on paper stock"),
+            group("CategoryTradeTax", vat),
+        ],
+    )
+}
+
+fn preceding(i: usize) -> Tree {
+    let number = leaf("IssuerAssignedID", &format!("RG-2023-{:06}", 1000 + i));
+    group("InvoiceReferencedDocument", [number, date("FormattedIssueDateTime", "20231130")])
+}
+
+fn payee() -> Tree {
+    group(
+        "PayeeTradeParty",
+        [
+            leaf("GlobalID", "4000001123452").with("schemeID", "0088"),
+            leaf("Name", "Druckerei Müller Factoring GmbH"),
+            group("SpecifiedLegalOrganization", [leaf("ID", "HRB 12345").with("schemeID", "0002")]),
+        ],
+    )
+}
+
+fn period() -> Tree {
+    group("BillingSpecifiedPeriod", [date("StartDateTime", "20240201"), date("EndDateTime", "20240229")])
+}
+
+/// A settlement of `records` records, at least 16.
+pub fn settlement(records: usize) -> Tree {
+    let mut children = core();
+    let mut left = records - 1 - children.iter().map(Tree::records).sum::<usize>();
+    let mut add = |child: Tree, children: &mut Vec<Tree>| {
+        let fits = child.records() <= left;
+        if fits {
+            left -= child.records();
+            children.push(child);
+        }
+        fits
+    };
+    add(tax(0), &mut children);
+    add(payee(), &mut children);
+    add(period(), &mut children);
+    let mut i = 1;
+    while add(allowance_charge(i), &mut children) | add(tax(i), &mut children) | add(preceding(i), &mut children) {
+        i += 1;
+    }
+    while add(leaf("ReceivableSpecifiedTradeAccountingAccount", ""), &mut children) {}
+    let settlement = group("ApplicableHeaderTradeSettlement", children);
+    assert_eq!(settlement.records(), records);
+    settlement
+}

@@ -1,0 +1,80 @@
+//! `replay FOLDER` runs FOLDER/cases.txt through the library's C function, compares the printed readings
+//! with FOLDER/answers.txt, and then tries what no stored case can show: the largest tables and lists
+//! with too little room (refusals 4 and 10). It ends with 1 where an answer differs.
+
+use compare::case;
+use compare::layout::Layout;
+use compare::library::{self, Lent, Lists, Refusal};
+use compare::print::printed;
+use compare::reading::Reading;
+
+const NAME: &[u8] = b"ApplicableHeaderTradeSettlement";
+
+fn main() {
+    let folder = std::env::args().nth(1).expect("usage: replay FOLDER");
+    let file = |name| std::fs::read_to_string(format!("{folder}/{name}")).expect(name);
+    let (cases, answers) = (file("cases.txt"), file("answers.txt"));
+    let mut answers = answers.split("\n\n");
+    let mut count = [0, 0];
+    for (i, line) in cases.lines().enumerate() {
+        let (lent, layout) = case::parsed(line);
+        let ours = shown(&library::reading(&layout, lent));
+        let answer = answers.next().expect("an answer");
+        let differs = ours.trim_ascii_end() != answer.trim_ascii_end().as_bytes();
+        count[usize::from(differs)] += 1;
+        if differs {
+            println!("case {}: {}\nagainst\n{answer}\n", i + 1, String::from_utf8_lossy(&ours));
+        }
+    }
+    println!("{} stored answers equal, {} different", count[0], count[1]);
+    limits();
+    std::process::exit(i32::from(count[1] > 0));
+}
+
+fn shown(outcome: &Result<Reading, Refusal>) -> Vec<u8> {
+    match outcome {
+        Ok(reading) => printed(reading),
+        Err((number, record)) => format!("refused\t{number}\t{record}\n").into(),
+    }
+}
+
+/// A table of so many records, the first a settlement or not, and a text of so many bytes.
+fn table(records: usize, bytes: usize, settlement: bool) -> Layout {
+    let name = if settlement { NAME.len() as u32 } else { 3 };
+    let mut table = vec![1, 0, 0, name, 0, 0];
+    table.resize(6 * records, 0);
+    table.chunks_exact_mut(6).skip(1).for_each(|record| record.copy_from_slice(&[1, 0, 0, 3, 0, 3]));
+    let mut text = NAME.to_vec();
+    text.resize(bytes, b' ');
+    Layout { table, text }
+}
+
+/// The refusal of a call with lists of so many numbers; none where it is read.
+fn refusal(layout: &Layout, held: usize, entries: usize, unmapped: usize) -> Option<Refusal> {
+    let mut lists = Lists::of_records(layout.table.len() / 6);
+    lists.held.truncate(held);
+    lists.entries.truncate(entries);
+    lists.unmapped.truncate(unmapped);
+    let lent = Lent { currency: b"", identifier: b"", rules: 4095, mode: 0 };
+    library::call(layout, lent, &mut lists);
+    library::read_answer(layout, &lists).err()
+}
+
+/// Refusals 4 and 10, and what is just not refused.
+fn limits() {
+    let roomy = |layout: &Layout| refusal(layout, usize::MAX, usize::MAX, usize::MAX);
+    assert_eq!(roomy(&table(4096, 1 << 20, true)), None);
+    assert_eq!(roomy(&table(4097, 100, true)), Some((4, 0)));
+    assert_eq!(roomy(&table(1, (1 << 20) + 1, true)), Some((4, 0)));
+    assert_eq!(roomy(&table(4097, 100, false)), Some((4, 0)), "4 is before 9");
+    for n in [1, 2, 100, 4096] {
+        let settlement = table(n, 100, true);
+        assert_eq!(refusal(&settlement, 14 * n, 24 * n, 3 * n), None);
+        assert_eq!(refusal(&settlement, 14 * n - 1, 24 * n, 3 * n), Some((10, 0)));
+        assert_eq!(refusal(&settlement, 14 * n, 24 * n - 1, 3 * n), Some((10, 0)));
+        assert_eq!(refusal(&settlement, 14 * n, 24 * n, 3 * n - 1), Some((10, 0)));
+        assert_eq!(refusal(&settlement, 0, 0, 0), Some((10, 0)));
+        assert_eq!(refusal(&table(n, 100, false), 0, 0, 0), Some((9, 0)), "9 is before 10");
+    }
+    println!("refusals 4 and 10 as document 01 has them");
+}

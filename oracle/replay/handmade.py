@@ -1,0 +1,251 @@
+#!/usr/bin/env python3
+"""Adds cases made by hand to the sample, for what the Rust cannot answer.
+
+    python3 oracle/replay/handmade.py FOLDER    adds to FOLDER/cases.txt and FOLDER/answers.txt
+
+Each refusal that a case can show (4 needs a larger table, 10 shorter lists), mode 1, message 7, document
+01's edges, and odd tables. The answers come from the model of document 01 (model.py).
+"""
+import os
+import sys
+
+from model import MEANS, SETTLEMENT, SUMMATION, answer, parse_case, refusal
+
+NBSP = "\u00a0"
+MOST = 4294967295
+
+
+# ---- writing tables
+
+
+def element(name, text="", *kids, **attributes):
+    return name, text, attributes, kids
+
+
+def settlement(*kids):
+    return element(SETTLEMENT, "", *kids)
+
+
+def laid(tree):
+    """Records in document order, an element's attributes right after it, each text in that order."""
+    table, text = [], bytearray()
+
+    def record(kind, parent, name, value):
+        table.extend([kind, parent])
+        for piece in (name.encode(), value.encode()):
+            table.extend([len(text), len(piece)])
+            text.extend(piece)
+        return len(table) // 6 - 1
+
+    def lay(parent, tree):
+        name, value, attributes, kids = tree
+        own = record(1, parent, name, value)
+        for attribute in attributes.items():
+            record(2, own, *attribute)
+        for kid in kids:
+            lay(own, kid)
+
+    lay(0, tree)
+    return table, bytes(text)
+
+
+def changed(table, record, field, value):
+    return table[:6 * record + field] + [value] + table[6 * record + field + 1:]
+
+
+def child(name, **parts):
+    """A child of the settlement with leaves."""
+    return element(name, "", *(element(part, text) for part, text in parts.items()))
+
+
+# ---- the cases: (mode, rules, currency, identifier, (table, text))
+
+
+def refusals():
+    table, text = laid(settlement(element("Foo", "a", currencyID="EUR"), element("Bar", "b")))
+    text += b"\xff\xc3\xa4\xed\xa0\x80\xc0\x80\xf4\x90\x80\x80\xe2\x82"
+    odd = len(text) - 14
+    end = len(text)
+    for mode, rules in ((2, 0), (999999999, 4096), (0, 4096), (1, 999999999)):
+        yield mode, rules, (table, text)
+    for tables in ([], table[:1], table[:5], table + [1], [0] * 7):
+        yield 0, 0, (tables, text)
+    for field, value in ((0, 0), (0, 2), (0, 3), (1, 1), (1, MOST)):
+        yield 0, 0, (changed(table, 0, field, value), text)
+    misplaced = ((1, 0, 0), (3, 0, 3), (3, 0, MOST), (1, 1, 1), (2, 1, 3), (3, 1, 2), (3, 1, MOST))
+    for record, field, value in misplaced:
+        yield 0, 0, (changed(table, record, field, value), text)
+    for record in range(4):
+        for field in (2, 4):
+            for start, length in ((end, 1), (end + 1, 0), (0, end + 1), (MOST, MOST), (1, MOST)):
+                yield 0, 0, (changed(changed(table, record, field, start), record, field + 1, length), text)
+            for start, length in ((0, 1), (1, 1), (2, 1), (3, 3), (6, 2), (8, 4), (12, 2)):
+                yield 0, 0, (changed(changed(table, record, field, odd + start), record, field + 1, length), text)
+    for name in ("", "CrossIndustryInvoice", SETTLEMENT.lower(), SETTLEMENT + "s", SETTLEMENT[:-1]):
+        yield 0, 0, laid(element(name, ""))
+    # several at once: the order of the refusals counts, not that of the records
+    late_kind = changed(table, 3, 0, 7)
+    yield 0, 0, (changed(late_kind, 1, 2, end + 1), text)
+    yield 0, 0, (changed(changed(table, 1, 4, odd), 3, 2, end + 1), text)
+    yield 0, 0, (changed(changed(table, 0, 3, 5), 3, 4, odd), text)
+    yield 0, 0, (changed(late_kind, 0, 0, 2), text)
+    yield 2, 4096, ([], b"")
+
+
+def amounts(text, **attributes):
+    """One text as a required, an optional and a total amount."""
+    names = ("LineTotalAmount", "RoundingAmount", "TaxTotalAmount")
+    return settlement(element(SUMMATION, "", *(element(name, text, **attributes) for name in names)))
+
+
+def rate(text):
+    tax = element("ApplicableTradeTax", "", element("CategoryCode", "S"), element("RateApplicablePercent", text))
+    return settlement(tax, element("SpecifiedTradeAllowanceCharge", "", element("CalculationPercent", text)))
+
+
+def dates(text, **attributes):
+    day = lambda spelling: element(spelling, text, **attributes)
+    point = element("ApplicableTradeTax", "", element("TaxPointDate", "", day("DateString")))
+    due = element("DueDateDateTime", "", day("DateTimeString"))
+    return settlement(point, element("SpecifiedTradePaymentTerms", "", due))
+
+
+def modes():
+    for space in (" ", "\t", " \t ", "\n", "\r", NBSP, "\u2003", "\x0b", "\x1f", ""):
+        for tree in (amounts(space + "1.50"), amounts("1.50" + space), amounts(space), rate(space + "19"), rate(space)):
+            yield 1, 4095, laid(tree)
+        yield 1, 4095, laid(dates("20240229" + space))
+        yield 1, 4095, laid(dates(space))
+    # texts of another kind keep the trim of mode 0
+    yield 1, 0, laid(amounts("1", currencyID=NBSP + "EUR\n"))
+    yield 1, 0, laid(settlement(element("InvoiceCurrencyCode", NBSP + "EUR" + NBSP), element("PaymentReference", "\n")))
+    indicator = element("ChargeIndicator", "", element("Indicator", "\ntrue" + NBSP))
+    tax = element("CategoryTradeTax", "", element("TypeCode", NBSP + "vat"), element("CategoryCode", "\nS"))
+    yield 1, 4095, laid(settlement(element("SpecifiedTradeAllowanceCharge", "", indicator, tax)))
+
+
+def long_percentages():
+    for text in (
+        "1" * 18, "1" * 19, "0" * 19, "-" + "9" * 18, "+" + "9" * 19, "0." + "0" * 17, "0." + "0" * 18,
+        "." + "5" * 18, "." + "5" * 19, "1" * 18 + ".", "1" * 19 + ".", "1" * 19 + "e", "1" * 40, "0" * 30 + ".1",
+    ):
+        yield 0, 0, laid(rate(text))
+        yield 1, 0, laid(rate(" " + text + "\t"))
+
+
+def edges():
+    for text in (
+        "-92233720368547758.08", "92233720368547758.08", "92233720368547758.07", "1.000",
+        "99999999999999999999.123", ".", "+", ".5", NBSP + "1",
+    ):
+        yield 0, 0, laid(amounts(text))
+        yield 1, 0, laid(amounts(text))
+    for text in ("20240229", "19000229", "00000229", "2024022"):
+        yield 0, 0, laid(dates(text))
+    for code in ("5", "3"):
+        yield 0, 0, laid(settlement(child("ApplicableTradeTax", DueDateTypeCode=code)))
+    totals = [element("TaxTotalAmount", text, currencyID="EUR") for text in ("10.00", "12.00")]
+    codes = [element(name, "EUR") for name in ("InvoiceCurrencyCode", "TaxCurrencyCode")]
+    yield 0, 0, laid(settlement(*codes, element(SUMMATION, "", *totals)))
+    # the traps: the currency of an empty amount, a provider's account in an earlier payment means, tax
+    # totals by the lent currency
+    yield 0, 4095, laid(amounts(" ", currencyID="USD"))
+    account = element("PayeePartyCreditorFinancialAccount", "", element("IBANID", "DE1"))
+    provider = element("PayeeSpecifiedCreditorFinancialInstitution", "", element("BICID", "BIC"))
+    yield 0, 0, laid(settlement(element(MEANS, "", account), element(MEANS, "", provider)))
+    yield 0, 0, laid(settlement(element("InvoiceCurrencyCode", "USD"), element(SUMMATION, "", totals[0])))
+
+
+def schemes():
+    blank, both = {"schemeID": ""}, {"schemeID": "", "listID": "x"}
+    for attributes in (blank, {"listID": ""}, both, {"listID": "x"}, {"schemeID": " 0088 "}):
+        identifiers = element("GlobalID", "", **attributes), element("ID", "1")
+        yield 0, 0, laid(settlement(element("PayeeTradeParty", "", *identifiers)))
+
+
+def odd_tables():
+    # record 0 with a text and attributes; children of a leaf
+    reference = element("PaymentReference", "1", element("ID", "2"), x="y")
+    yield 0, 0, laid(element(SETTLEMENT, "text", reference, currencyID="EUR"))
+    # an element of the settlement's name, an empty name, names beside names, empty names everywhere
+    near = [element(name, "x") for name in (SETTLEMENT, "", "PaymentReferenc", "PaymentReferences")]
+    yield 0, 0, laid(settlement(*near))
+    yield 0, 0, laid(settlement(*(element(name, "", element("")) for name in (MEANS, SUMMATION, ""))))
+    yield from odd_attributes()
+    yield from odd_places()
+    # bytes below 32, a text that is a dash, and one that is white to its end
+    texts = element("PaymentReference", "a\0b\x1fc\td\n"), element("InvoiceCurrencyCode", "-"), element("Foo\t", "")
+    yield 0, 0, laid(settlement(*texts))
+    spaces = element("PaymentReference", "\x0b\x0c\u0085\u2028\u3000x\u200b"), element("TaxCurrencyCode", "\x1c\x1d")
+    yield 0, 0, laid(settlement(*spaces))
+    # an element ninety deep
+    deep = element("Foo", "")
+    for _ in range(90):
+        deep = element("Foo", "", deep)
+    yield 0, 0, laid(settlement(deep))
+    # names in falling order, each twice
+    names = [element("Name%02d" % (n // 2)) for n in range(60, 0, -1)]
+    yield 0, 0, laid(settlement(*names, element(MEANS, "", *names)))
+
+
+def odd_attributes():
+    table, text = laid(settlement(element(SUMMATION, "", element("TaxTotalAmount", "1"))))
+    text += b"currencyIDEURUSD"
+    at = len(text)
+    euro, dollar = ([2, 2, at - 16, 10, start, 3] for start in (at - 6, at - 3))
+    # two of one name: the earlier counts, also an empty one
+    yield 0, 0, (table + euro + dollar, text)
+    yield 0, 0, (table + dollar + euro, text)
+    yield 0, 0, (table + changed(dollar, 0, 5, 0) + dollar, text)
+    # one without a name; one of record 0, which counts for no child
+    yield 0, 0, (table + [2, 2, at, 0, at - 3, 3] + dollar, text)
+    yield 0, 0, (table + changed(dollar, 0, 1, 0), text)
+
+
+def odd_places():
+    text = (SETTLEMENT + "PayeeTradePartyNameIDschemeID").encode()
+    root, party = [1, 0, 0, 31, 0, 0], [1, 0, 31, 15, 0, 0]
+    name, number = [46, 4, 31, 5], [50, 2, 0, 5]
+    # children of two parents in turns, attributes far from their elements
+    children = [1, 2] + number + [1, 1] + name + [1, 2] + name + [1, 1] + number
+    yield 0, 0, (root + party + party + children + [2, 6, 52, 8, 50, 2] + [2, 3, 52, 8, 46, 4], text)
+    # overlapping places, one text for all, places at the text's end, empty places anywhere
+    yield 0, 0, (root + [1, 0, 0, 10, 5, 10] + [1, 0, 5, 10, 0, 10] + [1, 0, 0, 10, 60, 0], text)
+    yield 0, 0, (root + [1, 0, 60, 0, 60, 0] + [1, 0, 31, 0, 0, 60] + [2, 0, 60, 0, 60, 0], text)
+    yield 0, 0, (root + [1, 0, 31, 0, 0, 60], text)
+
+
+def cases():
+    for family in (refusals, modes, long_percentages, edges, schemes, odd_tables):
+        for mode, rules, (table, text) in family():
+            yield mode, rules, "EUR", None, table, text
+    charge = laid(settlement(element("SpecifiedLogisticsServiceCharge", "", element("AppliedAmount", "1"))))
+    for identifier in (None, "a#conformant#b", "a:conformant:b", "a#conformant:b"):
+        yield (0, 4095, None, identifier, *charge)
+    for code in ("EUR", "eur", "EU", "ZZZ", "USD"):
+        yield (0, 4095, None, None, *laid(amounts("1", currencyID=code)))
+        yield (0, 4095, "ZZZ", None, *laid(amounts("1", currencyID=code)))
+
+
+def written(mode, rules, currency, identifier, table, text):
+    head = [str(f) for f in (mode, rules, currency or "-", identifier or "-", *table)]
+    shown = "".join(chr(b) if 32 <= b < 127 and b != 0x5C else "\\%02x" % b for b in text)
+    return (" ".join(head) + " :" + shown).encode()
+
+
+def main():
+    folder = sys.argv[1]
+    every = list(dict.fromkeys(written(*case) for case in cases()))
+    refused = {refused[0] for refused in (refusal(c[0], c[1], *c[4:]) for c in map(parse_case, every)) if refused}
+    assert refused == {1, 2, 3, 5, 6, 7, 8, 9}, refused
+    answers = [answer(*parse_case(case)) for case in every]
+    assert any(b"entry\t7\t" in a for a in answers)
+    with open(os.path.join(folder, "cases.txt"), "ab") as f:
+        f.writelines(case + b"\n" for case in every)
+    with open(os.path.join(folder, "answers.txt"), "ab") as f:
+        f.writelines(a + b"\n" for a in answers)
+    print("%d cases by hand" % len(every))
+
+
+if __name__ == "__main__":
+    main()
