@@ -1,7 +1,7 @@
 #!/usr/bin/env python3
 """Adds cases made by hand to the sample, for what the Rust cannot answer.
 
-    python3 oracle/replay/handmade.py FOLDER    adds to FOLDER/cases.txt and FOLDER/answers.txt
+    python3 oracle/replay/handmade.py FOLDER    adds to FOLDER/stdin and FOLDER/stdout
 
 Each refusal that a case can show (4 needs a larger table, 10 shorter lists), mode 1, message 7, document
 01's edges, and odd tables. The answers come from the model of document 01 (model.py).
@@ -240,9 +240,9 @@ def main():
     assert refused == {1, 2, 3, 5, 6, 7, 8, 9}, refused
     answers = [answer(*parse_case(case)) for case in every]
     assert any(b"entry\t7\t" in a for a in answers)
-    with open(os.path.join(folder, "cases.txt"), "ab") as f:
+    with open(os.path.join(folder, "stdin"), "ab") as f:
         f.writelines(case + b"\n" for case in every)
-    with open(os.path.join(folder, "answers.txt"), "ab") as f:
+    with open(os.path.join(folder, "stdout"), "ab") as f:
         f.writelines(a + b"\n" for a in answers)
     print("%d cases by hand" % len(every))
 

@@ -1,9 +1,11 @@
 #!/bin/sh
-# Writes cases.txt and answers.txt in this folder: the sample answered by the published Rust, then the
-# cases made by hand. Checks the model of document 01 on all of them. Needs what build.sh needs.
+# Writes the stored cases and answers of the program `replay` (crates/replay/stdin, stdout): the sample
+# answered by the published Rust, then the cases made by hand. Checks the model of document 01 on all of
+# them. Needs what build.sh needs.
 set -eu
 HERE=$(cd "$(dirname "$0")" && pwd)
+STORED=$HERE/../../crates/replay
 PROGRAMS=$("$HERE/../build.sh")
-"$PROGRAMS/cases" "$HERE"
-python3 -B "$HERE/handmade.py" "$HERE"
-python3 -B "$HERE/model.py" "$HERE"
+"$PROGRAMS/cases" "$STORED"
+python3 -B "$HERE/handmade.py" "$STORED"
+python3 -B "$HERE/model.py" "$STORED"

@@ -1,7 +1,7 @@
 #!/usr/bin/env python3
 """A reader of tables, written from document 01 and docs/DECISIONS.md: answers that the Rust cannot give.
 
-    python3 oracle/replay/model.py    runs it on the stored cases and compares with the stored answers
+    python3 oracle/replay/model.py FOLDER    runs it on FOLDER/stdin and compares with FOLDER/stdout
 
 Mode 1, message 7 and the refusals have no Rust to compare with, so their answers come from here; on
 all other cases this model must print what the Rust printed. It shares no code with either reader, but its
@@ -474,8 +474,8 @@ def parse_case(line):
 
 def main():
     folder = os.path.dirname(os.path.abspath(__file__)) if len(sys.argv) < 2 else sys.argv[1]
-    cases = open(os.path.join(folder, "cases.txt"), "rb").read().split(b"\n")[:-1]
-    answers = open(os.path.join(folder, "answers.txt"), "rb").read().split(b"\n\n")[:-1]
+    cases = open(os.path.join(folder, "stdin"), "rb").read().split(b"\n")[:-1]
+    answers = open(os.path.join(folder, "stdout"), "rb").read().split(b"\n\n")[:-1]
     assert len(cases) == len(answers), "as many answers as cases"
     different = [i for i, (c, a) in enumerate(zip(cases, answers)) if answer(*parse_case(c)) != a + b"\n"]
     print("%d cases, %d different" % (len(cases), len(different)))

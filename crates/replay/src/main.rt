@@ -2,8 +2,8 @@
 // document 01 says, and then an empty line.
 //
 // A case is an input line (mode, rules number, currency, identifier), the table's numbers and, after
-// ` :`, its text. oracle/replay has the cases with the answers that the Rust gave, or that were worked
-// out from document 01; oracle/README.md says how they were made.
+// ` :`, its text. `stdout` has the answers that the Rust gave, or that were worked out from document 01;
+// oracle/README.md says how both files were made.
 ghost use mathlib.Core.Path.{_≡_};
 use inputs::Fields;
 use inputs::Line;

@@ -1,5 +1,5 @@
-//! `cases FOLDER` writes a sample of made-up settlements as stored cases, FOLDER/cases.txt, with the
-//! published Rust's printed answers, FOLDER/answers.txt. It fails where the sample leaves out a message,
+//! `cases FOLDER` writes a sample of made-up settlements as stored cases, FOLDER/stdin, with the
+//! published Rust's printed answers, FOLDER/stdout. It fails where the sample leaves out a message,
 //! path, term, kind of row or group that the Rust can show. An answer is the lines of the printed reading
 //! and an empty line.
 
@@ -47,8 +47,8 @@ fn main() {
         }
     }
     assert!(tally.missing().is_empty(), "the sample leaves out {:?}", tally.missing());
-    std::fs::write(format!("{folder}/cases.txt"), cases).expect("cases.txt");
-    std::fs::write(format!("{folder}/answers.txt"), answers).expect("answers.txt");
+    std::fs::write(format!("{folder}/stdin"), cases).expect("stdin");
+    std::fs::write(format!("{folder}/stdout"), answers).expect("stdout");
     println!("{count} cases, which show all {} things", Tally::everything().len());
 }
 

@@ -1,5 +1,5 @@
-//! `replay FOLDER` runs FOLDER/cases.txt through the library's C function, compares the printed readings
-//! with FOLDER/answers.txt, and then tries what no stored case can show: the largest tables and lists
+//! `replay FOLDER` runs FOLDER/stdin through the library's C function, compares the printed readings
+//! with FOLDER/stdout, and then tries what no stored case can show: the largest tables and lists
 //! with too little room (refusals 4 and 10). It ends with 1 where an answer differs.
 
 use compare::case;
@@ -13,7 +13,7 @@ const NAME: &[u8] = b"ApplicableHeaderTradeSettlement";
 fn main() {
     let folder = std::env::args().nth(1).expect("usage: replay FOLDER");
     let file = |name| std::fs::read_to_string(format!("{folder}/{name}")).expect(name);
-    let (cases, answers) = (file("cases.txt"), file("answers.txt"));
+    let (cases, answers) = (file("stdin"), file("stdout"));
     let mut answers = answers.split("\n\n");
     let mut count = [0, 0];
     for (i, line) in cases.lines().enumerate() {
