@@ -473,7 +473,7 @@ def parse_case(line):
 
 
 def main():
-    folder = os.path.dirname(os.path.abspath(__file__)) if len(sys.argv) < 2 else sys.argv[1]
+    folder = sys.argv[1]
     cases = open(os.path.join(folder, "stdin"), "rb").read().split(b"\n")[:-1]
     answers = open(os.path.join(folder, "stdout"), "rb").read().split(b"\n\n")[:-1]
     assert len(cases) == len(answers), "as many answers as cases"
