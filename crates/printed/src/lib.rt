@@ -1,0 +1,1 @@
+// The printed reading: the lines of an outcome, made of the numbers that a call leaves.
