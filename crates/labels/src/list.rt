@@ -19,7 +19,7 @@ fn put_byte(list: &mut [u8], at: usize, i: usize, b: u8)
 }
 
 // Puts a text's bytes into a list from a place on, and answers the text's length.
-pub(crate) fn put_bytes(list: &mut [u8], at: usize, text: &[u8]) -> usize
+pub fn put_bytes(list: &mut [u8], at: usize, text: &[u8]) -> usize
     ensures { λ r. ⌜ Wrote (now (list .entry)) at (now (text .entry)) (now (list .exit)) r ⌝ }
 {
     let mut i = 0;

@@ -1,13 +1,13 @@
 -- What the numbers of a row show, column by column (document 01, "Rows" and "The printed reading").
 use mathlib.Core.Bool.{cond}
-use mathlib.Core.List.{List, [], _∷_}
+use mathlib.Core.List.{List, [], _∷_, map}
 use mathlib.Core.Option.{Option, none, some}
 use Prim.Native.Nat.{ℕ}
 use lib.Dec.{eqb}
 use lib.IntN.{ℤ, pos, negsuc}
 use lib.ListN.{getD, drop}
 use Rattle.text.specs.Span.{clipped}
-use Rattle.lines.specs.Decimal.{decimal, signed}
+use Rattle.lines.specs.Decimal.{decimal, signed, natural}
 use Rattle.lines.specs.Line.{printable, field, percentage}
 
 -- a text (start, length), a number, an amount that may be absent (1 or 0, amount), a percentage (unscaled number, scale), a date
@@ -17,6 +17,13 @@ pub data Column : Type 0 where
   amount : Column
   percent : Column
   date : Column
+
+-- a column by its letter, as the code writes it: t text, a amount, p percentage, d date, any other a number
+unfoldable pub columnOf : ℕ → Column
+columnOf c = cond (eqb c 0x74) text (cond (eqb c 0x61) amount (cond (eqb c 0x70) percent (cond (eqb c 0x64) date number)))
+
+unfoldable pub columnsOf : List ℕ → List Column
+columnsOf cs = map columnOf cs
 
 -- how many numbers a column has
 abbrev pub width : Column → ℕ
@@ -37,10 +44,9 @@ unfoldable pub percentShown : ℤ → ℤ → Option (List ℕ)
 percentShown a (pos k) = some (percentage a k)
 percentShown a (negsuc k) = none
 
--- base present or not, 1 or 0
+-- "base" present or not, 1 or 0
 unfoldable pub amountShown : ℤ → ℤ → Option (List ℕ)
-amountShown (pos p) a = cond (eqb p 0) none (some (signed a))
-amountShown (negsuc p) a = none
+amountShown p a = cond (eqb (natural p) 0) none (some (signed a))
 
 -- "a date is the number CCYYMMDD, absent -1"
 unfoldable pub dateShown : ℤ → Option (List ℕ)

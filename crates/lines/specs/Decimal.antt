@@ -18,3 +18,8 @@ decimal n = spelled (suc n) n
 unfoldable pub signed : ℤ → List ℕ
 signed (pos n) = decimal n
 signed (negsuc n) = 0x2D ∷ decimal (suc n)
+
+-- a number of a row where no number below 0 has a meaning: such a one counts as 0
+unfoldable pub natural : ℤ → ℕ
+natural (pos n) = n
+natural (negsuc n) = 0

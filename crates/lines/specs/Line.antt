@@ -10,8 +10,11 @@ use Rattle.text.specs.Utf8.{bytes}
 use Rattle.lines.specs.Decimal.{decimal, signed}
 
 -- "bytes below 32 print as a space"
+unfoldable pub printed : ℕ → ℕ
+printed b = cond (ltb b 0x20) 0x20 b
+
 unfoldable pub printable : List ℕ → List ℕ
-printable s = map (λ b. cond (ltb b 0x20) 0x20 b) s
+printable s = map printed s
 
 -- "absent is `-`"
 unfoldable pub field : Option (List ℕ) → List ℕ

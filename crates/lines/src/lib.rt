@@ -1,1 +1,14 @@
-// The lines of a printed reading, made of the numbers of its rows.
+// The parts of the lines of a printed reading, put as bytes into a lent list: numbers, fields of rows, and
+// the paths and terms of entries (document 01, "The printed reading").
+//
+// Every function puts bytes from a place on, each where there is room, and answers where the next go. It
+// takes all numbers and lists of any length, so no public function has a `requires`. The crate assumes
+// nothing of its own.
+mod column;
+mod list;
+mod number;
+
+pub use column::put_printable;
+pub use list::put_bytes;
+pub use number::put_decimal;
+pub use number::put_signed;
