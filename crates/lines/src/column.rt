@@ -81,7 +81,14 @@ fn put_date_column(out: &mut [u8], at: usize, date: i64) -> usize
 }
 
 // Puts what the numbers a and b show in a column of this letter, and answers where the next bytes go.
-pub(crate) fn put_column(out: &mut [u8], at: usize, text: &[u8], column: u8, a: i64, b: i64) -> usize
+pub(crate) fn put_column(
+    out: &mut [u8],
+    at: usize,
+    text: &[u8],
+    column: u8,
+    a: i64,
+    b: i64,
+) -> usize
     ensures { λ r. ⌜ Placed (now (out .entry)) at (field (shown (now (text .entry)) (columnOf column) a b)) (now (out .exit)) r ⌝ }
 {
     match column {

@@ -1,0 +1,5 @@
+pub mod Values
+pub mod RowLines
+pub mod TermLines
+pub mod Join
+pub mod Examples
