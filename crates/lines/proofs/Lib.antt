@@ -2,3 +2,4 @@ pub mod Putting
 pub mod Spelling
 pub mod Signs
 pub mod Showing
+pub mod Rows

@@ -5,6 +5,7 @@ use mathlib.Core.List.{List, [], _∷_}
 use mathlib.Core.Option.{Option, none, some}
 use Prim.Native.Nat.{ℕ, _+_, _≤_, _<_}
 use native.Mathlib.Numerals.{add-one}
+use borrow.Author.Tests.{ne-eqb}
 use lib.Dec.{eqb}
 use lib.Signed.{ltZ}
 use lib.IntN.{ℤ, pos, negsuc, natAbs}
@@ -19,7 +20,7 @@ use Rattle.report.specs.Placed.{Placed}
 use Rattle.report.proofs.Placing.{placed-then}
 use Rattle.lines.specs.Decimal.{decimal, signed, natural}
 use Rattle.lines.specs.Line.{printed, printable, field, percentage}
-use Rattle.lines.specs.Columns.{textShown, amountShown, percentShown, dateShown}
+use Rattle.lines.specs.Columns.{Column, columnOf, textShown, amountShown, percentShown, dateShown, shown}
 use Rattle.lines.proofs.Putting.{Partly, placed-as, partly-then, partly-all}
 use Rattle.lines.proofs.Signs.{held, below, above}
 
@@ -100,3 +101,16 @@ module _ {a b : ℤ} (f : SFits w64 a) (g : SFits w64 b) where
         let c : i ≡ above f e .0 = u ∙ ap natural (toZ-ofZ f ∙ above f e .1) in
         let d : n ≡ above g h .0 = v ∙ ap natural (toZ-ofZ g ∙ above g h .1) in
         there (at-start x ∙ ap (textShown x (pos (above f e .0))) (above g h .1) ∙ rw (w, c, d)) p
+
+  -- a column that is known by its letter
+  pub letter-shown : (x : List ℕ) {d k : Column} {l m : List ℕ} {at r : ℕ} → d ≡ k → Placed l at (field (shown x k (held a) (held b))) m r → Placed l at (field (shown x d a b)) m r
+  letter-shown x e p = rw e (rw (toZ-ofZ f, toZ-ofZ g) at p)
+
+  -- the same behind a tab
+  pub tab-shown : (x : List ℕ) (d : Column) {l m n : List ℕ} {at i r : ℕ} → Placed l at (0x9 ∷ []) m i → Placed m i (field (shown x d (held a) (held b))) n r → Placed l at (0x9 ∷ field (shown x d a b)) n r
+  tab-shown x d p q = placed-then p (letter-shown x refl q)
+
+-- any other letter
+pub letter-other : (c : ℕ) → (c ≡ 0x74 → ⊥) → (c ≡ 0x61 → ⊥) → (c ≡ 0x70 → ⊥) → (c ≡ 0x64 → ⊥) → columnOf c ≡ Column.number
+unfolding columnOf
+letter-other c t a p d = rw (ne-eqb c 0x74 t, ne-eqb c 0x61 a, ne-eqb c 0x70 p, ne-eqb c 0x64 d)

@@ -5,10 +5,13 @@
 // takes all numbers and lists of any length, so no public function has a `requires`. The crate assumes
 // nothing of its own.
 mod column;
+mod field;
 mod list;
 mod number;
 
 pub use column::put_printable;
+pub use field::put_field;
+pub use field::put_fields;
 pub use list::put_bytes;
 pub use number::put_decimal;
 pub use number::put_signed;
