@@ -19,7 +19,7 @@ pub fn put_field(out: &mut [u8], at: usize, text: &[u8], column: u8, a: i64, b: 
 }
 
 // A row's number, 0 past its end.
-fn number_at(row: &[i64], i: usize) -> i64
+pub fn number_at(row: &[i64], i: usize) -> i64
     ensures { λ r. ⌜ r ≡ getD (now (row .entry)) i (pos 0) ⌝ }
 {
     if i < row.len() {

@@ -10,8 +10,10 @@ mod list;
 mod number;
 
 pub use column::put_printable;
+pub use field::number_at;
 pub use field::put_field;
 pub use field::put_fields;
 pub use list::put_bytes;
+pub use number::natural;
 pub use number::put_decimal;
 pub use number::put_signed;

@@ -27,7 +27,7 @@ pub(crate) fn size(z: i64) -> u64
 }
 
 // A signed number where none below 0 has a meaning: such a one counts as 0.
-pub(crate) fn natural(z: i64) -> usize
+pub fn natural(z: i64) -> usize
     ensures { λ r. ⌜ r ≡ decimal.natural z ⌝ }
 {
     if z < 0 {

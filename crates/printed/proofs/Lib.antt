@@ -1,5 +1,6 @@
 pub mod Values
 pub mod RowLines
 pub mod TermLines
+pub mod Counting
 pub mod Join
 pub mod Examples

@@ -149,6 +149,10 @@ acceptedLines x a h e u =
 unfoldable pub linesOf : List ℕ → (answer held entries unmapped : List ℤ) → List (List ℕ)
 linesOf x a h e u = cond (there (cell a 0)) (line "refused" (fields x (number ∷ number ∷ []) a) ∷ []) (acceptedLines x a h e u)
 
+-- how many they are: one, or 36 for the counts, groups and terms, and the rows
+unfoldable pub lineCount : (answer held entries unmapped : List ℤ) → ℕ
+lineCount a h e u = cond (there (cell a 0)) 1 (36 + rowCount heldWidth (cell a 2) h + rowCount entryWidth (cell a 3) e + rowCount unmappedWidth (cell a 4) u)
+
 -- those of what a call with this outcome leaves, lent lists h, e and u
 abbrev pub exitLines : List ℕ → (h e u : List ℤ) → Outcome → List (List ℕ)
 exitLines x h e u o =
