@@ -3,3 +3,4 @@ pub mod Spelling
 pub mod Signs
 pub mod Showing
 pub mod Rows
+pub mod Naming

@@ -6,6 +6,7 @@
 // nothing of its own.
 mod column;
 mod field;
+mod label;
 mod list;
 mod number;
 
@@ -13,6 +14,9 @@ pub use column::put_printable;
 pub use field::number_at;
 pub use field::put_field;
 pub use field::put_fields;
+pub use label::put_path_field;
+pub use label::put_term_field;
+pub use label::put_unmapped_field;
 pub use list::put_bytes;
 pub use number::natural;
 pub use number::put_decimal;
