@@ -11,10 +11,8 @@ use lib.ListN.{length, length-append, length-map}
 use mir.Facts.{toZ-ofZ}
 use Rattle.report.specs.Encoding.{heldWidth, entryWidth, unmappedWidth, cutRows}
 use Rattle.lines.specs.Decimal.{natural}
-use Rattle.lines.specs.Line.{line}
-use Rattle.lines.specs.Columns.{number, fields}
 use Rattle.lines.proofs.Signs.{held}
-use Rattle.printed.specs.Numbers.{cell, there, groups, terms, groupNumbers, termNumbers, heldNumbers, entryNumbers, unmappedNumbers, rowCount, rowsIn, acceptedLines, linesOf, lineCount}
+use Rattle.printed.specs.Numbers.{cell, there, groups, terms, groupNumbers, termNumbers, heldNumbers, entryNumbers, unmappedNumbers, rowCount, rowsIn, refusedLine, laterLines, rowLines, acceptedLines, linesOf, lineCount}
 
 -- a number of the answer that was read
 pub counted : {z y : ℤ} {k : ℕ} → mag z < 2 ^ 63 → z ≡ y → k ≡ natural (held z) → k ≡ natural y
@@ -36,7 +34,7 @@ pub row-lines-length : (f : List ℤ → List ℕ) (w n : ℕ) (l : List ℤ) �
 row-lines-length f w n l = length-map (cutRows w n l) f ∙ cut-length w n l
 
 accepted-length : (x : List ℕ) (a h e u : List ℤ) → length (acceptedLines x a h e u) ≡ 36 + rowCount heldWidth (cell a 2) h + rowCount entryWidth (cell a 3) e + rowCount unmappedWidth (cell a 4) u
-unfolding acceptedLines
+unfolding acceptedLines rowLines laterLines
 accepted-length x a h e u =
     simp (length-append, row-lines-length) (omega arith)
 
@@ -45,6 +43,6 @@ pub lines-length : (x : List ℕ) (a h e u : List ℤ) → length (linesOf x a h
 unfolding linesOf lineCount
 lines-length x a h e u = go (there (cell a 0))
   where
-    go : (b : Bool) → length (cond b (line "refused" (fields x (number ∷ number ∷ []) a) ∷ []) (acceptedLines x a h e u)) ≡ cond b 1 (36 + rowCount heldWidth (cell a 2) h + rowCount entryWidth (cell a 3) e + rowCount unmappedWidth (cell a 4) u)
+    go : (b : Bool) → length (cond b (refusedLine x a ∷ []) (acceptedLines x a h e u)) ≡ cond b 1 (36 + rowCount heldWidth (cell a 2) h + rowCount entryWidth (cell a 3) e + rowCount unmappedWidth (cell a 4) u)
     go true = refl
     go false = accepted-length x a h e u

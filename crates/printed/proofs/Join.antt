@@ -1,7 +1,7 @@
 -- The lines made of a call's numbers are those of its outcome.
 use mathlib.Core.Path.{_≡_, refl, sym, ap, _∙_}
 use mathlib.Core.Bool.{Bool, true, false, not}
-use mathlib.Core.List.{List, [], _∷_, _++_, map, flatten}
+use mathlib.Core.List.{List, [], _∷_, _++_, map, flatten, append-assoc}
 use mathlib.Core.Option.{Option, none, some}
 use Prim.Native.Nat.{ℕ, _*_, _/_, _≤_, _<_}
 use native.Mathlib.Omega.{arith}
@@ -27,7 +27,7 @@ use Rattle.lines.specs.Line.{field}
 use Rattle.lines.specs.Columns.{fields}
 use Rattle.lines.specs.Columns as columns
 use Rattle.printed.specs.Printed.{heldLine, entryLine, unmappedLine, readingLines, outcomeLines, printed}
-use Rattle.printed.specs.Numbers.{rowCount, rowsIn, heldNumbers, entryNumbers, unmappedNumbers, acceptedLines, linesOf, exitLines}
+use Rattle.printed.specs.Numbers.{rowCount, rowsIn, heldNumbers, entryNumbers, unmappedNumbers, acceptedLine, refusedLine, laterLines, rowLines, acceptedLines, linesOf, exitLines}
 use Rattle.printed.proofs.RowLines.{held-line, entry-line, unmapped-line}
 use Rattle.printed.proofs.TermLines.{row-parts, group-lines, term-lines}
 
@@ -49,14 +49,19 @@ module _ {A : Type 0} (row : A → List ℤ) (w : ℕ) (positive : 0 < w) (wide 
       each [] = refl
       each (a ∷ l) = rw (same a, each l)
 
--- a first line, and five lists of lines
-joined : {A : Type 0} {a a′ : A} {b b′ c c′ d d′ e e′ f f′ : List A} → a ≡ a′ → b ≡ b′ → c ≡ c′ → d ≡ d′ → e ≡ e′ → f ≡ f′ → a ∷ b ++ c ++ d ++ e ++ f ≡ a′ ∷ b′ ++ c′ ++ d′ ++ e′ ++ f′
-joined p q r s t u = rw (p, q, r, s, t, u)
+-- lists of lines, one after another
+grouped : {A : Type 0} (a b c d e : List A) → (a ++ b) ++ (c ++ (d ++ e)) ≡ a ++ b ++ c ++ d ++ e
+grouped a b c d e = simp append-assoc
+
+joined :
+    {A : Type 0} {a a′ : A} {b b′ c c′ d d′ e e′ f f′ : List A} → a ≡ a′ → b ≡ b′ → c ≡ c′ → d ≡ d′ → e ≡ e′ → f ≡ f′ →
+    ((a ∷ b) ++ c) ++ (d ++ (e ++ f)) ≡ (a′ ∷ b′) ++ c′ ++ d′ ++ e′ ++ f′
+joined {a′ = a′} {b′ = b′} {c′ = c′} {d′ = d′} {e′ = e′} {f′ = f′} p q r s t u = rw (p, q, r, s, t, u) (grouped (a′ ∷ b′) c′ d′ e′ f′)
 
 -- the lists at entry are any
 module _ (x : List ℕ) (h e u : List ℤ) where
   lines-read : (r : Reading Place) → exitLines x h e u (read r) ≡ outcomeLines x (read r)
-  unfolding linesOf acceptedLines outcomeLines readingLines answerRow resultOf shown mapReading fields columns.shown natural signed field
+  unfolding linesOf acceptedLines rowLines laterLines acceptedLine outcomeLines readingLines answerRow resultOf shown mapReading fields columns.shown natural signed field
   lines-read r =
       let n = pos (length (r .held)) in
       let m = pos (length (r .entries)) in
@@ -71,7 +76,7 @@ module _ (x : List ℕ) (h e u : List ℤ) where
       (row-lines unmappedRow unmappedWidth (omega arith) unmapped-width (r .unmapped) u (unmappedNumbers x) (mapUnmapped (shows x)) unmappedLine (unmapped-line x))
 
   lines-refused : (n r : ℕ) → 0 < n → exitLines x h e u (refused n r) ≡ outcomeLines x (refused n r)
-  unfolding linesOf outcomeLines answerRow resultOf fields columns.shown natural signed field
+  unfolding linesOf refusedLine outcomeLines answerRow resultOf fields columns.shown natural signed field
   lines-refused n r p = rw (ne-eqb n 0 (λ e. omega arith))
 
   -- the lines of every call

@@ -2,5 +2,7 @@ pub mod Values
 pub mod RowLines
 pub mod TermLines
 pub mod Counting
+pub mod Putting
+pub mod Dispatch
 pub mod Join
 pub mod Examples

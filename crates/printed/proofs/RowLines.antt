@@ -13,10 +13,11 @@ use Rattle.labels.proofs.OwnTexts.{path-text, term-group, term-name, parent-nam
 use Rattle.report.specs.Rows.{Place, Entry, Held, transfer, vat, allowance, charge, preceding, Unmapped, mapEntry, mapTransfer, mapVat, mapAllowanceCharge, mapPreceding, mapHeld, mapUnmapped}
 use Rattle.report.specs.Encoding.{orAbsent, heldRow, entryRow, unmappedRow}
 use Rattle.settlement.specs.TableDoc.{shows}
+use Rattle.settlement.proofs.Results.{tidy-shows}
 use Rattle.lines.specs.Decimal.{signed, natural}
 use Rattle.lines.specs.Line.{field}
 use Rattle.lines.specs.Columns.{shown, fields}
-use Rattle.lines.specs.Labels.{termShown, unmappedPath}
+use Rattle.lines.specs.Labels.{termShown, unmappedPath, nameShown}
 use Rattle.printed.specs.Printed.{heldLine, termField, entryLine, unmappedLine}
 use Rattle.printed.specs.Numbers.{heldColumns, heldNumbers, entryNumbers, unmappedNumbers}
 use Rattle.printed.proofs.Values.{place-shown, text-shown, amount-shown, percent-shown, date-shown}
@@ -42,5 +43,5 @@ module _ (x : List ℕ) where
   entry-line e = rw (path-text (e .path), term-shown (e .term) (e .index), text-shown x (e .value))
 
   pub unmapped-line : (u : Unmapped Place) → unmappedNumbers x (unmappedRow u) ≡ unmappedLine (mapUnmapped (shows x) u)
-  unfolding unmappedNumbers unmappedRow unmappedLine unmappedPath natural field mapUnmapped
-  unmapped-line u = rw (parent-name (u .parent), place-shown x (u .name))
+  unfolding unmappedNumbers unmappedRow unmappedLine unmappedPath nameShown natural mapUnmapped
+  unmapped-line u = rw (parent-name (u .parent), tidy-shows x (u .name))

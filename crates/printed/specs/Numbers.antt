@@ -1,10 +1,10 @@
 -- The same lines from the numbers that a call leaves: its answer as one row, and its three lists of rows (document 01, "Rows"). A number past the end of a row is 0.
-use mathlib.Core.Bool.{Bool, cond, not, _||_}
+use mathlib.Core.Bool.{Bool, true, false, cond, not, _&&_, _||_}
 use mathlib.Core.List.{List, [], _∷_, _++_, map}
 use mathlib.Core.Option.{Option, none, some}
 use Prim.Native.Nat.{ℕ, _+_, _/_, min}
 use lib.Dec.{eqb}
-use lib.IntN.{ℤ, pos}
+use lib.IntN.{ℤ, pos, negsuc}
 use lib.ListN.{length, getD, drop}
 use Rattle.text.specs.Utf8.{bytes}
 use Rattle.labels.specs.PathText.{pathTextAt}
@@ -15,7 +15,7 @@ use Rattle.settlement.specs.Result.{resultOf, answerRow}
 use Rattle.lines.specs.Decimal.{decimal, signed, natural}
 use Rattle.lines.specs.Line.{field, line}
 use Rattle.lines.specs.Columns.{Column, text, number, amount, percent, date, textShown, shown, fields}
-use Rattle.lines.specs.Labels.{termShown, unmappedPath}
+use Rattle.lines.specs.Labels.{termShown, unmappedPath, nameShown}
 use Rattle.printed.specs.Printed.{groupLine}
 
 -- a number of a row
@@ -25,6 +25,11 @@ cell row i = getD row i (pos 0)
 -- whether a number says that something is there, 1 or 0
 abbrev pub there : ℤ → Bool
 there z = not (eqb (natural z) 0)
+
+-- whether a number is not below 0
+abbrev pub isNatural : ℤ → Bool
+isNatural (pos n) = true
+isNatural (negsuc n) = false
 
 -- a group: its number, and where the answer says whether it is present
 pub record GroupAt : Type 0 where
@@ -37,10 +42,10 @@ pub record TermAt : Type 0 where
   pub column : Column
   pub place : ℕ
 
-abbrev group : ℕ → ℕ → GroupAt
+abbrev pub group : ℕ → ℕ → GroupAt
 group n p = record { number = n; place = p }
 
-abbrev term : ℕ → Column → ℕ → TermAt
+abbrev pub term : ℕ → Column → ℕ → TermAt
 term n c p = record { number = n; column = c; place = p }
 
 -- BG-10, BG-14, BG-16, BG-18 (card), BG-19 (direct debit)
@@ -85,6 +90,14 @@ terms =
 unfoldable pub hasScheme : ℕ → Bool
 hasScheme n = eqb n 60 || eqb n 61
 
+-- whether the numbers of a column show something
+unfoldable pub isShown : Column → ℤ → ℤ → Bool
+isShown text a b = isNatural a && isNatural b
+isShown number a b = true
+isShown amount a b = there a
+isShown percent a b = isNatural b
+isShown date a b = isNatural a
+
 -- "`group` for present BG-10, .."
 unfoldable pub groupNumbers : List ℤ → GroupAt → List ℕ
 groupNumbers a g = groupLine (g .number) (there (cell a (g .place)))
@@ -95,12 +108,12 @@ termWith n none scheme = []
 termWith n (some s) scheme = line "term" ((bytes "BT-" ++ decimal n) ∷ s ∷ maybe [] (λ t. t ∷ []) scheme)
 
 -- its scheme, "if any"
-unfoldable pub schemeShown : List ℕ → List ℤ → TermAt → Option (List ℕ)
-schemeShown x a t = cond (hasScheme (t .number)) (textShown x (cell a (2 + t .place)) (cell a (3 + t .place))) none
+unfoldable pub schemeShown : List ℕ → List ℤ → (number place : ℕ) → Option (List ℕ)
+schemeShown x a n p = cond (hasScheme n) (textShown x (cell a (p + 2)) (cell a (p + 3))) none
 
 -- "`term` with number and content (then scheme, if any)"
 unfoldable pub termNumbers : List ℕ → List ℤ → TermAt → List ℕ
-termNumbers x a t = termWith (t .number) (shown x (t .column) (cell a (t .place)) (cell a (1 + t .place))) (schemeShown x a t)
+termNumbers x a t = termWith (t .number) (shown x (t .column) (cell a (t .place)) (cell a (t .place + 1))) (schemeShown x a (t .number) (t .place))
 
 -- the columns of a held row by its kind: 1 transfer, 2 VAT, 3 allowance, 4 charge, 5 preceding invoice
 unfoldable pub heldColumns : ℕ → List Column
@@ -125,7 +138,7 @@ entryNumbers x row =
 
 -- "`unmapped` with path"
 unfoldable pub unmappedNumbers : List ℕ → List ℤ → List ℕ
-unmappedNumbers x row = line "unmapped" (unmappedPath (natural (cell row 0)) (field (textShown x (cell row 1) (cell row 2))) ∷ [])
+unmappedNumbers x row = line "unmapped" (unmappedPath (natural (cell row 0)) (nameShown x (cell row 1) (cell row 2)) ∷ [])
 
 -- how many rows of a width are in a list: as many as are answered, if so many are there
 unfoldable pub rowCount : ℕ → ℤ → List ℤ → ℕ
@@ -135,19 +148,29 @@ rowCount w answered l = min (natural answered) (length l / w)
 abbrev pub rowsIn : ℕ → ℤ → List ℤ → List (List ℤ)
 rowsIn w answered l = cutRows w (rowCount w answered l) l
 
+-- "`accepted` with the three counts"
+unfoldable pub acceptedLine : List ℕ → List ℤ → List ℕ
+acceptedLine x a = line "accepted" (fields x (number ∷ number ∷ number ∷ []) (drop 2 a))
+
+-- "`refused` with number and record"
+unfoldable pub refusedLine : List ℕ → List ℤ → List ℕ
+refusedLine x a = line "refused" (fields x (number ∷ number ∷ []) a)
+
+-- the lines of entries and unmapped elements
+unfoldable pub laterLines : List ℕ → (answer entries unmapped : List ℤ) → List (List ℕ)
+laterLines x a e u = map (entryNumbers x) (rowsIn entryWidth (cell a 3) e) ++ map (unmappedNumbers x) (rowsIn unmappedWidth (cell a 4) u)
+
+-- the lines of all rows
+unfoldable pub rowLines : List ℕ → (answer held entries unmapped : List ℤ) → List (List ℕ)
+rowLines x a h e u = map (heldNumbers x) (rowsIn heldWidth (cell a 2) h) ++ laterLines x a e u
+
 -- the lines of a call that read
 unfoldable pub acceptedLines : List ℕ → (answer held entries unmapped : List ℤ) → List (List ℕ)
-acceptedLines x a h e u =
-    line "accepted" (fields x (number ∷ number ∷ number ∷ []) (drop 2 a)) ∷
-    map (groupNumbers a) groups ++
-    map (termNumbers x a) terms ++
-    map (heldNumbers x) (rowsIn heldWidth (cell a 2) h) ++
-    map (entryNumbers x) (rowsIn entryWidth (cell a 3) e) ++
-    map (unmappedNumbers x) (rowsIn unmappedWidth (cell a 4) u)
+acceptedLines x a h e u = (acceptedLine x a ∷ map (groupNumbers a) groups ++ map (termNumbers x a) terms) ++ rowLines x a h e u
 
 -- the lines of a call: "`accepted` with the three counts, or `refused` with number and record"
 unfoldable pub linesOf : List ℕ → (answer held entries unmapped : List ℤ) → List (List ℕ)
-linesOf x a h e u = cond (there (cell a 0)) (line "refused" (fields x (number ∷ number ∷ []) a) ∷ []) (acceptedLines x a h e u)
+linesOf x a h e u = cond (there (cell a 0)) (refusedLine x a ∷ []) (acceptedLines x a h e u)
 
 -- how many they are: one, or 36 for the counts, groups and terms, and the rows
 unfoldable pub lineCount : (answer held entries unmapped : List ℤ) → ℕ

@@ -14,11 +14,11 @@ fn fewer(a: usize, b: usize) -> usize
     b
 }
 
-// A number of the answer that counts.
-fn count_at(answer: &[i64], i: usize) -> usize
-    ensures { λ r. ⌜ r ≡ natural (cell (now (answer .entry)) i) ⌝ }
+// A number of a row that is not below 0.
+pub(crate) fn count_at(row: &[i64], i: usize) -> usize
+    ensures { λ r. ⌜ r ≡ natural (cell (now (row .entry)) i) ⌝ }
 {
-    lines::natural(lines::number_at(answer, i))
+    lines::natural(lines::number_at(row, i))
 }
 
 // Whether the call was refused.

@@ -5,5 +5,11 @@
 // number past the end of a row is 0, an answered row that its list does not have is not printed, and
 // what has no room is left out. The crate assumes nothing of its own.
 mod count;
+mod group;
+mod line;
+mod row;
+mod table;
+mod term;
 
 pub use count::line_count;
+pub use line::put_line;
