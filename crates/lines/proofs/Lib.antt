@@ -4,3 +4,4 @@ pub mod Signs
 pub mod Showing
 pub mod Rows
 pub mod Naming
+pub mod Room

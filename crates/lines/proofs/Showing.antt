@@ -8,7 +8,7 @@ use native.Mathlib.Numerals.{add-one}
 use borrow.Author.Tests.{ne-eqb}
 use lib.Dec.{eqb}
 use lib.Signed.{ltZ}
-use lib.IntN.{ℤ, pos, negsuc, natAbs}
+use lib.IntN.{ℤ, pos, natAbs}
 use lib.ListN.{length, getD, drop, drop-of-length-le}
 use lib.Seq.{drop-cons}
 use mir.Syntax.{w64}

@@ -10,7 +10,7 @@ use lib.Signed.{ltZ, nonNeg}
 use lib.IntN.{ℤ, pos, negsuc, natAbs, _-ℤ_}
 use mir.Syntax.{w64}
 use mir.Val.{SFits, Fits, toZ, ofZ}
-use mir.Facts.{toZ-ofZ, toZ-pos}
+use mir.Facts.{toZ-ofZ}
 use Rattle.text.proofs.Bools.{not-both}
 use Rattle.report.specs.Placed.{Placed}
 use Rattle.report.proofs.Placing.{placed-then}

@@ -1,25 +1,26 @@
 -- Laws of numbers in decimal digits.
-use mathlib.Core.Path.{_≡_, refl, sym, ap, _∙_}
+use mathlib.Core.Path.{_≡_, refl, _∙_}
 use mathlib.Core.Bool.{Bool, true, false}
-use mathlib.Core.List.{List, [], _∷_, _++_}
+use mathlib.Core.List.{[], _∷_, _++_}
 use Prim.Native.Nat.{ℕ, zero, suc, _+_, _-_, _*_, _/_, _%_, _^_, _≤_, _<_}
 use native.Mathlib.Omega.{arith}
 use native.Mathlib.Nat.{pow-succ', one-le-pow}
 use borrow.Author.Tests.{lt-ltb, le-ltb, ltb-true, ltb-false}
 use lib.Dec.{ltb}
-use lib.ListN.{length, length-append}
+use lib.ListN.{length, getD, length-append, List·getD-append}
 use Rattle.io.specs.Digits.{digits, Fewest}
-use Rattle.text.specs.Digits.{number}
-use Rattle.text.proofs.Digits.{number-append}
+use Rattle.text.specs.Digits.{digit, allDigits, number}
+use Rattle.text.proofs.Digits.{number-append, all-append}
+use Rattle.text.proofs.Ranges.{within-yes}
 use Rattle.lines.specs.Decimal.{spelled, decimal}
 
 -- one digit, and more
 module _ (f n : ℕ) where
-  spelled-one : n < 10 → spelled (suc f) n ≡ (0x30 + n) ∷ []
+  pub spelled-one : n < 10 → spelled (suc f) n ≡ (0x30 + n) ∷ []
   unfolding spelled
   spelled-one h = rw (lt-ltb n 10 h)
 
-  spelled-more : 10 ≤ n → spelled (suc f) n ≡ spelled f (n / 10) ++ ((0x30 + n % 10) ∷ [])
+  pub spelled-more : 10 ≤ n → spelled (suc f) n ≡ spelled f (n / 10) ++ ((0x30 + n % 10) ∷ [])
   unfolding spelled
   spelled-more h = rw (le-ltb n 10 h)
 
@@ -64,3 +65,37 @@ number-spelled (suc f) n h = go (ltb n 10) refl (number-spelled f (n / 10))
 pub number-decimal : (n : ℕ) → number 0 (decimal n) ≡ n
 unfolding decimal
 number-decimal n = number-spelled (suc n) n (omega arith)
+
+-- they are digits, and the first is no zero
+digit-of : (d : ℕ) → d < 10 → allDigits ((0x30 + d) ∷ []) ≡ true
+unfolding allDigits digit
+digit-of d h = rw (within-yes (0x30 + d) 0x30 0x39 (omega arith) (omega arith))
+
+digits-all : (f n : ℕ) → n < f → allDigits (spelled f n) ≡ true
+digits-all zero n h = absurd (omega arith)
+digits-all (suc f) n h = go (ltb n 10) refl (digits-all f (n / 10))
+  where
+    go : (b : Bool) → ltb n 10 ≡ b → (n / 10 < f → allDigits (spelled f (n / 10)) ≡ true) → allDigits (spelled (suc f) n) ≡ true
+    go true e r = rw (spelled-one f n (ltb-true n 10 e)) (digit-of n (ltb-true n 10 e))
+    go false e r =
+        let m = ltb-false n 10 e in
+        rw (spelled-more f n m) (all-append (spelled f (n / 10)) ((0x30 + n % 10) ∷ []) (r (omega arith)) (digit-of (n % 10) (omega arith)))
+
+first-digit : (f n : ℕ) → n < f → 0 < n → (0 < length (spelled f n)) × (getD (spelled f n) 0 0 ≡ 0x30 → ⊥)
+first-digit zero n h p = absurd (omega arith)
+first-digit (suc f) n h p = go (ltb n 10) refl (first-digit f (n / 10))
+  where
+    go : (b : Bool) → ltb n 10 ≡ b → (n / 10 < f → 0 < n / 10 → (0 < length (spelled f (n / 10))) × (getD (spelled f (n / 10)) 0 0 ≡ 0x30 → ⊥)) → (0 < length (spelled (suc f) n)) × (getD (spelled (suc f) n) 0 0 ≡ 0x30 → ⊥)
+    go true e r = rw (spelled-one f n (ltb-true n 10 e)) (omega arith, λ q. omega arith)
+    go false e r =
+        let m = ltb-false n 10 e in
+        let q = r (omega arith) (omega arith) in
+        rw (spelled-more f n m, length-append (spelled f (n / 10)) ((0x30 + n % 10) ∷ []), List·getD-append (spelled f (n / 10)) ((0x30 + n % 10) ∷ []) 0 0 (q .0)) (omega (arith, q .0), q .1)
+
+pub decimal-all : (n : ℕ) → allDigits (decimal n) ≡ true
+unfolding decimal
+decimal-all n = digits-all (suc n) n (omega arith)
+
+pub decimal-first : (n : ℕ) → 0 < n → getD (decimal n) 0 0 ≡ 0x30 → ⊥
+unfolding decimal
+decimal-first n h = first-digit (suc n) n (omega arith) h .1

@@ -1,6 +1,6 @@
 -- Paths and terms as the Rust prints them, by their numbers (document 01, "Rows": Entry, Unmapped).
 use mathlib.Core.Bool.{cond}
-use mathlib.Core.List.{List, [], _∷_, _++_}
+use mathlib.Core.List.{List, [], _++_}
 use mathlib.Core.Option.{Option, none, some}
 use Prim.Native.Nat.{ℕ}
 use lib.Dec.{eqb}
@@ -22,7 +22,7 @@ bracketed (negsuc i) = []
 unfoldable pub groupText : List ℕ → ℤ → List ℕ
 groupText group index = cond (eqb (length group) 0) [] (group ++ bracketed index ++ bytes "/")
 
--- before the term's name: `BG-23[0]/BT-116`
+-- the term's name behind its group: `BG-23[0]/BT-116`
 unfoldable pub termText : List ℕ → ℤ → List ℕ → List ℕ
 termText group index name = groupText group index ++ name
 

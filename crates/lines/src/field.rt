@@ -22,10 +22,10 @@ pub fn put_field(out: &mut [u8], at: usize, text: &[u8], column: u8, a: i64, b: 
 pub fn number_at(row: &[i64], i: usize) -> i64
     ensures { λ r. ⌜ r ≡ getD (now (row .entry)) i (pos 0) ⌝ }
 {
-    if i < row.len() {
-        return row[i];
+    if row.len() <= i {
+        return 0;
     }
-    0
+    row[i]
 }
 
 // The number behind that.

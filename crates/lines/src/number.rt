@@ -30,7 +30,8 @@ pub(crate) fn size(z: i64) -> u64
 pub fn natural(z: i64) -> usize
     ensures { λ r. ⌜ r ≡ decimal.natural z ⌝ }
 {
-    if z < 0 {
+    let negative = z < 0;
+    if negative {
         return 0;
     }
     z as usize

@@ -3,8 +3,8 @@ use Rattle.lines.proofs.Rows.{number-past}
 use Rattle.lines.proofs.field.number_at.Statement.{statement}
 use Rattle.lines.proofs.field.number_at.Tie as tie
 
-returns-2 : tie.Need-returns-2
-returns-2 c = search number-past
+returns : tie.Need-returns
+returns c = search number-past
 
 pub number-at-spec : {M : Type 1} → statement M
-number-at-spec = tie.close (tie.spec (λ c. search needs) (λ c. search needs) (λ c. search needs) returns-2)
+number-at-spec = tie.close (tie.spec returns (λ c. search needs) (λ c. search needs) (λ c. search needs))

@@ -1,4 +1,3 @@
-use borrow.Author.Needs.{needs}
 use Rattle.lines.proofs.Signs.{natural-below, natural-above, above-cast}
 use Rattle.lines.proofs.number.natural.Statement.{statement}
 use Rattle.lines.proofs.number.natural.Tie as tie

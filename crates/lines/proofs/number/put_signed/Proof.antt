@@ -1,8 +1,4 @@
 use borrow.Author.Needs.{needs}
-use mathlib.Core.Path.{_∙_}
-use mathlib.Core.List.{_∷_}
-use Rattle.report.proofs.Placing.{placed-then}
-use Rattle.lines.proofs.Putting.{placed-as}
 use Rattle.lines.proofs.Signs.{placed-below, placed-above}
 use Rattle.lines.proofs.number.put_signed.Statement.{statement}
 use Rattle.lines.proofs.number.put_signed.Tie as tie
