@@ -1,18 +1,17 @@
 -- Laws of the counts of lines and rows.
-use mathlib.Core.Path.{_≡_, refl, sym, ap, _∙_}
-use mathlib.Core.Bool.{Bool, true, false, not, cond}
-use mathlib.Core.List.{List, [], _∷_, _++_, map}
-use Prim.Native.Nat.{ℕ, zero, suc, _+_, _*_, _/_, _≤_, _<_, _^_, min}
+use mathlib.Core.Path.{_≡_, refl, ap, _∙_}
+use mathlib.Core.Bool.{Bool, true, false, cond}
+use mathlib.Core.List.{List, [], _∷_, map}
+use Prim.Native.Nat.{ℕ, zero, suc, _+_, _/_, _≤_, _<_, _^_}
 use native.Mathlib.Omega.{arith}
-use lib.Dec.{eqb}
-use lib.IntN.{ℤ, pos}
+use lib.IntN.{ℤ}
 use lib.Signed.{mag}
 use lib.ListN.{length, length-append, length-map}
 use mir.Facts.{toZ-ofZ}
 use Rattle.report.specs.Encoding.{heldWidth, entryWidth, unmappedWidth, cutRows}
 use Rattle.lines.specs.Decimal.{natural}
 use Rattle.lines.proofs.Signs.{held}
-use Rattle.printed.specs.Numbers.{cell, there, groups, terms, groupNumbers, termNumbers, heldNumbers, entryNumbers, unmappedNumbers, rowCount, rowsIn, refusedLine, laterLines, rowLines, acceptedLines, linesOf, lineCount}
+use Rattle.printed.specs.Numbers.{cell, there, rowCount, refusedLine, laterLines, rowLines, acceptedLines, linesOf, lineCount}
 
 -- a number of the answer that was read
 pub counted : {z y : ℤ} {k : ℕ} → mag z < 2 ^ 63 → z ≡ y → k ≡ natural (held z) → k ≡ natural y

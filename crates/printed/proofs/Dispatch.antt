@@ -1,12 +1,12 @@
 -- Which line of a call is at a place.
 use mathlib.Core.Path.{_≡_, refl, sym, ap, _∙_}
-use mathlib.Core.Bool.{Bool, true, false, cond}
+use mathlib.Core.Bool.{Bool, true, false}
 use mathlib.Core.List.{List, [], _∷_, _++_, map}
 use Prim.Native.Nat.{ℕ, zero, suc, _+_, _*_, _-_, _≤_, _<_}
 use native.Mathlib.Omega.{arith}
 use native.Mathlib.Nat.{suc-mul}
-use lib.IntN.{ℤ, pos}
-use lib.ListN.{length, getD, take, drop, length-map, List·getD-append, List·getD-eq-default}
+use lib.IntN.{ℤ}
+use lib.ListN.{length, getD, take, drop, List·getD-append, List·getD-eq-default}
 use lib.Seq.{getD-append-add, drop-drop}
 use Rattle.report.specs.Encoding.{heldWidth, entryWidth, unmappedWidth, cutRows}
 use Rattle.report.specs.Placed.{Placed}

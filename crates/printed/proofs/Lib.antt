@@ -4,5 +4,6 @@ pub mod TermLines
 pub mod Counting
 pub mod Putting
 pub mod Dispatch
+pub mod Room
 pub mod Join
 pub mod Examples

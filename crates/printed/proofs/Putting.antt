@@ -15,7 +15,7 @@ use lib.Seq.{getD-drop}
 use mir.Syntax.{w64}
 use mir.Val.{SFits}
 use mir.Facts.{toZ-ofZ}
-use Rattle.text.specs.Utf8.{bytes, encode}
+use Rattle.text.specs.Utf8.{bytes}
 use Rattle.labels.specs.PathText.{pathTextAt}
 use Rattle.report.specs.Placed.{Placed}
 use Rattle.report.proofs.Placing.{placed-none, placed-then}
@@ -27,7 +27,7 @@ use Rattle.lines.specs.Columns.{Column, text, number, amount, percent, date, te
 use Rattle.lines.specs.Labels.{termShown, unmappedPath, nameShown}
 use Rattle.lines.proofs.Putting.{placed-as}
 use Rattle.lines.proofs.Signs.{held}
-use Rattle.printed.specs.Numbers.{cell, there, isNatural, isShown, hasScheme, GroupAt, TermAt, group, groups, groupNumbers, term, terms, termWith, schemeShown, termNumbers, heldColumns, heldNumbers, entryNumbers, unmappedNumbers}
+use Rattle.printed.specs.Numbers.{cell, there, isNatural, isShown, hasScheme, group, groups, groupNumbers, term, terms, termWith, schemeShown, termNumbers, heldColumns, heldNumbers, entryNumbers, unmappedNumbers}
 
 -- a number that a call gave, passed on
 passed : {z y : ℤ} → mag z < 2 ^ 63 → z ≡ y → held z ≡ y

@@ -1,12 +1,8 @@
 -- The lines made of rows are those of what the rows hold.
-use mathlib.Core.Path.{_≡_, refl, sym, ap, _∙_}
-use mathlib.Core.Bool.{Bool, true, false, cond}
-use mathlib.Core.List.{List, [], _∷_, map}
-use mathlib.Core.Option.{Option, none, some}
+use mathlib.Core.Path.{_≡_}
+use mathlib.Core.List.{List}
+use mathlib.Core.Option.{Option}
 use Prim.Native.Nat.{ℕ}
-use lib.Dec.{eqb}
-use lib.IntN.{ℤ}
-use Rattle.text.specs.Utf8.{bytes}
 use Rattle.names.specs.declared.term.Term.{Term}
 use Rattle.names.specs.Term.{termNumber}
 use Rattle.labels.proofs.OwnTexts.{path-text, term-group, term-name, parent-name}

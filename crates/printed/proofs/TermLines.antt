@@ -1,13 +1,13 @@
 -- The lines made of the answer's row are those of its groups and terms.
-use mathlib.Core.Path.{_≡_, refl, sym, ap, _∙_}
+use mathlib.Core.Path.{_≡_, refl, ap, _∙_}
 use mathlib.Core.Bool.{Bool, true, false, not}
 use mathlib.Core.List.{List, [], _∷_, _++_, map}
 use mathlib.Core.Option.{Option, none, some, Option·map}
 use Prim.Native.Nat.{ℕ}
-use lib.IntN.{ℤ, pos}
+use lib.IntN.{ℤ}
 use Rattle.text.specs.Utf8.{bytes}
 use Rattle.report.specs.Rows.{Place}
-use Rattle.report.specs.Encoding.{textStart, textLength, textCells, amountCells, present, hundredths, orAbsent}
+use Rattle.report.specs.Encoding.{textStart, textLength, textCells, present, hundredths, orAbsent}
 use Rattle.settlement.specs.Document.{maybe}
 use Rattle.settlement.specs.Shapes.{Identifier, Payee, Means, unset, card, debit, transfers, Period, Terms}
 use Rattle.settlement.specs.Summation.{isNone}

@@ -2,9 +2,10 @@
 use mathlib.Core.Bool.{Bool, true, false, cond, not, _&&_, _||_}
 use mathlib.Core.List.{List, [], _∷_, _++_, map}
 use mathlib.Core.Option.{Option, none, some}
-use Prim.Native.Nat.{ℕ, _+_, _/_, min}
+use Prim.Native.Nat.{ℕ, _+_, _*_, _/_, _^_, _<_, min}
 use lib.Dec.{eqb}
 use lib.IntN.{ℤ, pos, negsuc}
+use lib.Signed.{mag}
 use lib.ListN.{length, getD, drop}
 use Rattle.text.specs.Utf8.{bytes}
 use Rattle.labels.specs.PathText.{pathTextAt}
@@ -175,6 +176,14 @@ linesOf x a h e u = cond (there (cell a 0)) (refusedLine x a ∷ []) (acceptedLi
 -- how many they are: one, or 36 for the counts, groups and terms, and the rows
 unfoldable pub lineCount : (answer held entries unmapped : List ℤ) → ℕ
 lineCount a h e u = cond (there (cell a 0)) 1 (36 + rowCount heldWidth (cell a 2) h + rowCount entryWidth (cell a 3) e + rowCount unmappedWidth (cell a 4) u)
+
+-- numbers of 64 bits
+abbrev pub Wide : List ℤ → Type 0
+Wide l = (i : ℕ) → mag (cell l i) < 2 ^ 63
+
+-- room for a line about a text of n bytes
+abbrev pub lineRoom : ℕ → ℕ
+lineRoom n = 3 * n + 160
 
 -- those of what a call with this outcome leaves, lent lists h, e and u
 abbrev pub exitLines : List ℕ → (h e u : List ℤ) → Outcome → List (List ℕ)

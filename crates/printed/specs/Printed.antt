@@ -16,7 +16,7 @@ use Rattle.labels.specs.ParentName.{parentName}
 use Rattle.report.specs.Rows.{Entry, AllowanceCharge, Held, transfer, vat, allowance, charge, preceding, Unmapped}
 use Rattle.report.specs.Encoding.{orAbsent}
 use Rattle.settlement.specs.Document.{maybe}
-use Rattle.settlement.specs.Shapes.{Identifier, Payee, Means, unset, card, debit, transfers, Period, Terms, Reading}
+use Rattle.settlement.specs.Shapes.{Identifier, Means, unset, card, debit, transfers, Terms, Reading}
 use Rattle.settlement.specs.Summation.{isNone}
 use Rattle.settlement.specs.Outcome.{Outcome, refused, read, shown}
 use Rattle.lines.specs.Decimal.{decimal, signed}
