@@ -1,74 +1,34 @@
 -- Demand 3 at the calls: two calls that read, lent any lists, whose tables describe the same settlement except for an exchange, leave numbers that show the same but for the order of rows.
 use mathlib.Core.Path.{_≡_, refl, sym, ap, _∙_}
-use mathlib.Core.Bool.{Bool, true, false, cond, true≢false}
+use mathlib.Core.Bool.{Bool, true, false, cond}
 use mathlib.Core.List.{List, [], _∷_, map, Perm·map}
 use mathlib.Core.Option.{Option, none, some, Option·map}
 use Prim.Native.Nat.{ℕ}
-use borrow.Author.Tests.{eqb-true}
-use lib.Dec.{eqb, ltb}
+use lib.Dec.{eqb}
 use lib.IntN.{ℤ, pos}
-use lib.ListN.{length, take, drop, replicate}
-use Rattle.text.specs.Span.{clipped}
+use lib.ListN.{replicate}
 use Rattle.names.specs.Message.{messageNumber}
 use Rattle.names.specs.Path.{pathNumber}
 use Rattle.names.specs.Term.{termNumber}
 use Rattle.names.specs.Parent.{parentNumber}
-use Rattle.refusals.specs.Refusals.{refuse, recordRefusal, sizeRefusal, refusal}
 use Rattle.report.specs.Rows.{Place, Entry, AllowanceCharge, Held, transfer, vat, allowance, charge, preceding, Unmapped, mapEntry, mapTransfer, mapVat, mapAllowanceCharge, mapPreceding, mapHeld, mapUnmapped}
-use Rattle.report.specs.Encoding.{heldWidth, entryWidth, unmappedWidth, tidy, placeStart, placeLength, textStart, textLength, unscaled, scale, present, hundredths, orAbsent, heldRow, entryRow, unmappedRow, rowsThen}
+use Rattle.report.specs.Encoding.{heldWidth, entryWidth, unmappedWidth, placeStart, placeLength, textStart, textLength, unscaled, scale, present, hundredths, orAbsent, heldRow, entryRow, unmappedRow, rowsThen}
 use Rattle.report.proofs.RowsOf.{cut-exit}
 use Rattle.report.proofs.Widths.{held-width, entry-width, unmapped-width}
 use Rattle.settlement.specs.Shapes.{Reading}
 use Rattle.settlement.specs.Values.{Lent}
 use Rattle.settlement.specs.Settlement.{reading}
-use Rattle.settlement.specs.Document.{orElse}
-use Rattle.settlement.specs.Summation.{isNone}
 use Rattle.settlement.specs.TableDoc.{shows, tableDoc}
 use Rattle.settlement.specs.Tree.{treeDoc, treeOf}
 use Rattle.settlement.specs.Shown.{mapReading}
-use Rattle.settlement.specs.Outcome.{Room, Outcome, read, callRefusal, unless, outcome, shown}
+use Rattle.settlement.specs.Outcome.{Outcome, read, outcome, shown}
 use Rattle.settlement.specs.Result.{Result, resultOf}
 use Rattle.settlement.specs.Alike.{rowKind, keep, ofKind}
 use Rattle.settlement.specs.Exchange.{Exchanged}
 use Rattle.settlement.proofs.AnyOrder.{same-settlement, order-free}
+use Rattle.settlement.proofs.Results.{outcome-zero, tidy-shows}
 use Rattle.reader.specs.Answered.{roomOf}
 use Rattle.reader.specs.Calls.{Cell, number, absent, bytes, textCell, shownRow, entryColumns, unmappedColumns, kindOf, shownHeldRow, Call, Promised, shownTerms, heldIn, shownHeld, shownOfKind, shownEntries, shownUnmapped, AlikeCalls, SameCalls}
-
--- a refusal's number is not 0
-unfoldable numbered : Option (ℕ × ℕ) → Bool
-numbered none = true
-numbered (some n) = ltb 0 (n .0)
-
-none-numbered : numbered none ≡ true
-unfolding numbered
-none-numbered = refl
-
-refuse-numbered : (k : ℕ) (o : Option ℕ) (next : Option (ℕ × ℕ)) → numbered (refuse k o next) ≡ cond (isNone o) (numbered next) (ltb 0 k)
-unfolding numbered
-refuse-numbered k none next = refl
-refuse-numbered k (some r) next = refl
-
-either-numbered : (o p : Option (ℕ × ℕ)) → numbered (orElse o p) ≡ cond (isNone o) (numbered p) (numbered o)
-either-numbered none p = refl
-either-numbered (some n) p = refl
-
-either-way : (b : Bool) → cond b true true ≡ true
-either-way true = refl
-either-way false = refl
-
--- as for all ten
-call-numbered : (L : Lent) (m : Room) (t x : List ℕ) → numbered (callRefusal L m t x) ≡ true
-unfolding callRefusal refusal sizeRefusal recordRefusal
-call-numbered L m t x = simp (refuse-numbered, either-numbered, none-numbered, either-way)
-
--- so an outcome of number 0 is a reading
-outcome-zero : (L : Lent) (m : Room) (t x : List ℕ) → resultOf (outcome L m t x) .number ≡ 0 → outcome L m t x ≡ read (reading L (tableDoc t x) 0)
-unfolding outcome resultOf numbered
-outcome-zero L m t x e = go (callRefusal L m t x) (call-numbered L m t x) e
-  where
-    go : (o : Option (ℕ × ℕ)) → numbered o ≡ true → resultOf (unless o (reading L (tableDoc t x) 0)) .number ≡ 0 → unless o (reading L (tableDoc t x) 0) ≡ read (reading L (tableDoc t x) 0)
-    go none h e = refl
-    go (some n) h e = absurd (true≢false (sym h ∙ ap (ltb 0) e))
 
 -- rows that pass a test, and what passes it
 keep-map : {A B : Type 0} (f : A → B) (s : A → Bool) (t : B → Bool) → ((a : A) → t (f a) ≡ s a) → (l : List A) → keep t (map f l) ≡ map f (keep s l)
@@ -88,12 +48,8 @@ cellOf (some b) = bytes b
 module _ (x : List ℕ) where
   -- the two numbers of a text show what its place does
   place-shown : (p : Place) → textCell x (placeStart p) (placeLength p) ≡ bytes (shows x p)
-  unfolding textCell clipped tidy shows
-  place-shown p = ap bytes (go (eqb (p .len) 0) refl)
-    where
-      go : (b : Bool) → eqb (p .len) 0 ≡ b → take (p .len) (drop (cond b 0 (p .start)) x) ≡ take (p .len) (drop (p .start) x)
-      go true e = rw (eqb-true (p .len) 0 e)
-      go false e = refl
+  unfolding textCell
+  place-shown p = ap bytes (tidy-shows x p)
 
   text-shown : (t : Option Place) → textCell x (textStart t) (textLength t) ≡ cellOf (Option·map (shows x) t)
   unfolding textCell

@@ -28,7 +28,7 @@ outcome-read L m t x r e = go (callRefusal L m t x) e
 
 module _ (L : Lent) where
   -- what a table's reading shows is the reading of its tree
-  shown-tree : (t x : List ℕ) → shown x (reading L (tableDoc t x) 0) ≡ reading L treeDoc (treeOf t x 0)
+  pub shown-tree : (t x : List ℕ) → shown x (reading L (tableDoc t x) 0) ≡ reading L treeDoc (treeOf t x 0)
   unfolding shown
   shown-tree t x = sym (reading-n L (tableDoc t x) treeDoc (treeOf t x) (shows x) (hom t x) 0)
 

@@ -1,22 +1,18 @@
 -- Rows that stand one after the other at the front of a list, read back.
-use mathlib.Core.Path.{_≡_, refl, sym, ap, _∙_}
-use mathlib.Core.Bool.{Bool, true, false, cond}
+use mathlib.Core.Path.{_≡_, sym, ap, _∙_}
 use mathlib.Core.List.{List, [], _∷_, _++_}
 use Prim.Native.Nat.{ℕ, zero, suc, _+_, _-_, _*_, _≤_, _<_}
 use native.Mathlib.Omega.{arith}
-use borrow.Author.Tests.{eqb-true}
-use lib.Dec.{eqb}
 use lib.IntN.{ℤ, pos}
 use lib.ListN.{length, getD, take, drop, length-append, take-append-drop, List·getD-append}
 use lib.Seq.{slice, getD-append-add, length-take-le, take-at, drop-at}
-use Rattle.text.specs.Span.{clipped}
 use Rattle.names.specs.Put.{put}
 use Rattle.names.proofs.Puts.{put-put, put-eq, put-at, put-again}
 use Rattle.report.specs.Rows.{Place, Unmapped}
-use Rattle.report.specs.Encoding.{tidy, unmappedRow, rowsOf}
+use Rattle.report.specs.Encoding.{unmappedRow, rowsOf}
 use Rattle.report.proofs.Widths.{unmapped-width}
 use Rattle.report.proofs.RowsOf.{rows-length, rows-append}
-use Rattle.settlement.specs.TableDoc.{shows}
+use Rattle.settlement.proofs.Results.{tidy-shows}
 use Rattle.unmapped.specs.Row.{orZero, number, rowKey, elementKey}
 
 -- number j of row k
@@ -29,15 +25,6 @@ rows-at (u ∷ us) zero j d h h′ =
 rows-at (u ∷ us) (suc k) j d h h′ =
     let e : suc k * 3 + j ≡ length (unmappedRow u) + (k * 3 + j) = omega (arith, unmapped-width u) in
     ap (λ (i : ℕ). getD (unmappedRow u ++ rowsOf unmappedRow us) i (pos 0)) e ∙ getD-append-add (unmappedRow u) (rowsOf unmappedRow us) (k * 3 + j) (pos 0) ∙ rows-at us k j d (omega arith) h′
-
--- a place as a row shows it shows the same bytes: an empty one none
-tidy-shows : (x : List ℕ) (p : Place) → clipped x (tidy p .start) (p .len) ≡ shows x p
-unfolding clipped tidy shows
-tidy-shows x p = go (eqb (p .len) 0) refl
-  where
-    go : (b : Bool) → eqb (p .len) 0 ≡ b → take (p .len) (drop (cond b 0 (p .start)) x) ≡ take (p .len) (drop (p .start) x)
-    go true e = rw (eqb-true (p .len) 0 e)
-    go false e = refl
 
 module _ (lent : List ℤ) (us : List (Unmapped Place)) (room : length us * 3 ≤ length lent) where
   back-number : (k j : ℕ) (d : Unmapped Place) → k < length us → j < 3 → number (put lent 0 (rowsOf unmappedRow us)) k j ≡ orZero (getD (unmappedRow (getD us k d)) j (pos 0))

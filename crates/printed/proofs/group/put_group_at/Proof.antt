@@ -1,0 +1,27 @@
+use borrow.Author.Needs.{needs}
+use Rattle.text.specs.Utf8.{bytes, encode}
+use Rattle.printed.proofs.Putting.{group-none, group-put}
+use Rattle.printed.proofs.group.put_group_at.Statement.{statement}
+use Rattle.printed.proofs.group.put_group_at.Tie as tie
+
+returns : tie.Need-returns
+returns c = group-none _ _ _ (c .before .before .wide .ensures) (c .before .count-at .ensures) _ (c .if1 .taken)
+
+returns-2 : tie.Need-returns-2
+unfolding bytes encode
+returns-2 c = group-put _ _ _ (c .before .before .before .before .before .before .before .before .before .before .before .before .before .before .before .before .wide .ensures) (c .before .before .before .before .before .before .before .before .before .before .before .before .before .before .before .count-at .ensures) (c .before .before .before .before .before .before .before .before .before .before .before .before .before .before .if1 .left) (c .before .before .before .before .before .before .before .before .before .before .before .put-bytes .ensures) (c .before .before .before .before .before .before .before .put-decimal .ensures) (c .before .before .put-bytes2 .ensures)
+
+pub put-group-at-spec : {M : Type 1} → statement M
+put-group-at-spec =
+    tie.close
+    (tie.spec
+    (λ c κs. search needs)
+    (λ c κs. search needs)
+    returns
+    (λ c. search needs)
+    (λ c κs. search needs)
+    (λ c κs. search needs)
+    (λ c. search needs)
+    (λ c κs. search needs)
+    (λ c. search needs)
+    returns-2)

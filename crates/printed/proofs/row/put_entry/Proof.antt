@@ -1,0 +1,22 @@
+use borrow.Author.Needs.{needs}
+use Rattle.lines.specs.Columns.{columnOf, columnsOf}
+use Rattle.printed.proofs.Putting.{entry-put}
+use Rattle.printed.proofs.row.put_entry.Statement.{statement}
+use Rattle.printed.proofs.row.put_entry.Tie as tie
+
+returns : tie.Need-returns
+unfolding columnOf columnsOf
+returns c = entry-put _ _ (c .before .before .before .before .before .before .before .before .before .before .before .before .before .before .before .before .put-entry-start .ensures) (c .before .before .before .before .before .before .before .before .before .before .before .before .put-term .ensures) (c .before .before .before .before .before .before .before .put-fields .ensures) (c .before .before .put-bytes .ensures)
+
+pub put-entry-spec : {M : Type 1} → statement M
+put-entry-spec =
+    tie.close
+    (tie.spec
+    (λ c κs. search needs)
+    (λ c κs. search needs)
+    (λ c. search needs)
+    (λ c κs. search needs)
+    (λ c. search needs)
+    (λ c κs. search needs)
+    (λ c. search needs)
+    returns)

@@ -1,0 +1,22 @@
+use borrow.Author.Needs.{needs}
+use Rattle.text.specs.Utf8.{bytes, encode}
+use Rattle.lines.specs.Columns.{columnOf, columnsOf}
+use Rattle.printed.proofs.Putting.{start-put}
+use Rattle.printed.proofs.row.put_entry_start.Statement.{statement}
+use Rattle.printed.proofs.row.put_entry_start.Tie as tie
+
+returns : tie.Need-returns
+unfolding bytes encode columnOf columnsOf
+returns c = start-put _ _ (c .before .before .before .before .before .before .before .before .before .before .before .put-bytes .ensures) (c .before .before .before .before .before .before .put-fields .ensures) (c .before .before .put-path .ensures)
+
+pub put-entry-start-spec : {M : Type 1} → statement M
+put-entry-start-spec =
+    tie.close
+    (tie.spec
+    (λ c. search needs)
+    (λ c κs. search needs)
+    (λ c. search needs)
+    (λ c κs. search needs)
+    (λ c κs. search needs)
+    (λ c. search needs)
+    returns)

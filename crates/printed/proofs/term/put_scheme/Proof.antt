@@ -1,0 +1,31 @@
+use borrow.Author.Needs.{needs}
+use Rattle.lines.specs.Columns.{columnOf, columnsOf}
+use Rattle.printed.proofs.Putting.{not-true, not-false, scheme-not, scheme-absent, scheme-put}
+use Rattle.printed.proofs.term.put_scheme.Statement.{statement}
+use Rattle.printed.proofs.term.put_scheme.Tie as tie
+
+returns : tie.Need-returns
+returns c = scheme-not _ _ _ _ _ _ (c .before .is-identifier .ensures) (not-true _ (c .if1 .taken))
+
+returns-2 : tie.Need-returns-2
+unfolding columnOf
+returns-2 c = scheme-absent _ _ _ _ _ _ (c .before .before .before .is-identifier .ensures) (not-false _ (c .before .before .if1 .left)) (c .before .is-present .ensures) (not-true _ (c .if2 .taken))
+
+returns-3 : tie.Need-returns-3
+unfolding columnOf columnsOf
+returns-3 c = scheme-put _ _ _ _ (c .before .before .before .before .before .before .before .before .is-identifier .ensures) (not-false _ (c .before .before .before .before .before .before .before .if1 .left)) (c .before .before .before .before .before .before .is-present .ensures) (not-false _ (c .before .before .before .before .before .if2 .left)) (c .before .before .put-fields .ensures)
+
+pub put-scheme-spec : {M : Type 1} → statement M
+put-scheme-spec =
+    tie.close
+    (tie.spec
+    (λ c κs. search needs)
+    returns
+    (λ c. search needs)
+    (λ c κs. search needs)
+    returns-2
+    (λ c. search needs)
+    (λ c. search needs)
+    (λ c κs. search needs)
+    (λ c. search needs)
+    returns-3)
