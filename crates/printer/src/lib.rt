@@ -11,10 +11,10 @@ const STDOUT: i32 = 1;
 fn print_lines(
     out: &mut [u8; 524288],
     text: &[u8],
-    answer: &[i64],
-    held: &[i64],
-    entries: &[i64],
-    unmapped: &[i64],
+    answer: &[i64; 65],
+    held: &[i64; 3584],
+    entries: &[i64; 6144],
+    unmapped: &[i64; 768],
 ) {
     let lines = printed::line_count(answer, held, entries, unmapped);
     let mut k = 0;
