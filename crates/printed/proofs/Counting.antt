@@ -7,7 +7,7 @@ use native.Mathlib.Omega.{arith}
 use lib.IntN.{ℤ}
 use lib.Signed.{mag}
 use lib.ListN.{length, length-append, length-map}
-use mir.Facts.{toZ-ofZ}
+use Rattle.report.proofs.Cells.{carried}
 use Rattle.report.specs.Encoding.{heldWidth, entryWidth, unmappedWidth, cutRows}
 use Rattle.lines.specs.Decimal.{natural}
 use Rattle.lines.proofs.Signs.{held}
@@ -15,7 +15,7 @@ use Rattle.printed.specs.Numbers.{cell, there, rowCount, refusedLine, la
 
 -- a number of the answer that was read
 pub counted : {z y : ℤ} {k : ℕ} → mag z < 2 ^ 63 → z ≡ y → k ≡ natural (held z) → k ≡ natural y
-counted f e q = q ∙ ap natural (toZ-ofZ (record { sfits = f }) ∙ e)
+counted f e q = q ∙ ap natural (carried f e)
 
 -- no more rows than a list has
 pub in-list : (w : ℕ) (answered : ℤ) (l : List ℤ) → rowCount w answered l ≤ length l / w

@@ -6,4 +6,5 @@ pub mod Putting
 pub mod Dispatch
 pub mod Room
 pub mod Join
+pub mod Calls
 pub mod Examples

@@ -18,6 +18,7 @@ use mir.Facts.{toZ-ofZ}
 use Rattle.text.specs.Utf8.{bytes}
 use Rattle.labels.specs.PathText.{pathTextAt}
 use Rattle.report.specs.Placed.{Placed}
+use Rattle.report.proofs.Cells.{carried}
 use Rattle.report.proofs.Placing.{placed-none, placed-then}
 use Rattle.settlement.specs.Document.{maybe}
 use Rattle.settlement.specs.Summation.{isNone}
@@ -28,10 +29,6 @@ use Rattle.lines.specs.Labels.{termShown, unmappedPath, nameShown}
 use Rattle.lines.proofs.Putting.{placed-as}
 use Rattle.lines.proofs.Signs.{held}
 use Rattle.printed.specs.Numbers.{cell, there, isNatural, isShown, hasScheme, group, groups, groupNumbers, term, terms, termWith, schemeShown, termNumbers, heldColumns, heldNumbers, entryNumbers, unmappedNumbers}
-
--- a number that a call gave, passed on
-passed : {z y : ℤ} → mag z < 2 ^ 63 → z ≡ y → held z ≡ y
-passed f e = toZ-ofZ (record { sfits = f }) ∙ e
 
 -- a test that was turned round
 pub not-true : (b : Bool) → not b ≡ true → b ≡ false
@@ -59,12 +56,12 @@ kind-other k a b c d e = rw (ne-eqb k 1 a, ne-eqb k 2 b, ne-eqb k 3 c, ne-eqb k 
 
 -- the parts of an entry
 pub path-put : {z y : ℤ} {l m : List ℕ} {at r : ℕ} → mag z < 2 ^ 63 → z ≡ y → Placed l at (0x9 ∷ pathTextAt (natural (held z))) m r → Placed l at (0x9 ∷ pathTextAt (natural y)) m r
-path-put f e p = rw (passed f e) at p
+path-put f e p = rw (carried f e) at p
 
 pub term-put :
     {z y a b : ℤ} {l m : List ℕ} {at r : ℕ} → mag z < 2 ^ 63 → z ≡ y → mag a < 2 ^ 63 → a ≡ b → Placed l at (0x9 ∷ field (termShown (natural (held z)) (held a))) m r →
     Placed l at (0x9 ∷ field (termShown (natural y) b)) m r
-term-put f e g h p = rw (passed f e, passed g h) at p
+term-put f e g h p = rw (carried f e, carried g h) at p
 
 pub start-put :
     (x : List ℕ) (row : List ℤ) {l m n o : List ℕ} {i j r : ℕ} → Placed l 0 (bytes "entry") m i → Placed m i (tabbed (fields x (number ∷ []) row)) n j →
@@ -90,7 +87,7 @@ entry-put x row a b c d =
 pub element-put :
     (x : List ℕ) {z y a b c d : ℤ} {l m : List ℕ} {at r : ℕ} → mag z < 2 ^ 63 → z ≡ y → mag a < 2 ^ 63 → a ≡ b → mag c < 2 ^ 63 → c ≡ d →
     Placed l at (0x9 ∷ unmappedPath (natural (held z)) (nameShown x (held a) (held c))) m r → Placed l at (0x9 ∷ unmappedPath (natural y) (nameShown x b d)) m r
-element-put x f e g h i j p = rw (passed f e, passed g h, passed i j) at p
+element-put x f e g h i j p = rw (carried f e, carried g h, carried i j) at p
 
 pub unmapped-put :
     (x : List ℕ) (row : List ℤ) {l m n o : List ℕ} {i j r : ℕ} → Placed l 0 (bytes "unmapped") m i →
@@ -138,7 +135,7 @@ module _ {a b : ℤ} (f : SFits w64 a) (g : SFits w64 b) where
   letter-is d e = rw d (e ∙ rw (toZ-ofZ f, toZ-ofZ g))
 
 pub present-is : (c : Column) {z y v w : ℤ} {r : Bool} → mag z < 2 ^ 63 → z ≡ y → mag v < 2 ^ 63 → v ≡ w → r ≡ isShown c (held z) (held v) → r ≡ isShown c y w
-present-is c f d g e q = q ∙ rw (passed f d, passed g e)
+present-is c f d g e q = q ∙ rw (carried f d, carried g e)
 
 shown-is : (x : List ℕ) (c : Column) (a b : ℤ) → isShown c a b ≡ not (isNone (shown x c a b))
 unfolding isShown shown textShown percentShown dateShown amountShown

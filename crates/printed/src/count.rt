@@ -5,6 +5,7 @@ ghost use Rattle.report.specs.Encoding.{heldWidth, entryWidth, unmappedWidth};
 ghost use Rattle.lines.specs.Decimal.{natural};
 ghost use Rattle.printed.specs.Numbers.{cell, there, rowCount, lineCount};
 
+// The lesser of two counts.
 fn fewer(a: usize, b: usize) -> usize
     ensures { λ r. ⌜ r ≡ min a b ⌝ }
 {
@@ -14,7 +15,7 @@ fn fewer(a: usize, b: usize) -> usize
     b
 }
 
-// A number of a row that is not below 0.
+// A number of a row, 0 for one below that.
 pub(crate) fn count_at(row: &[i64], i: usize) -> usize
     ensures { λ r. ⌜ r ≡ natural (cell (now (row .entry)) i) ⌝ }
 {
@@ -29,18 +30,21 @@ pub(crate) fn is_refused(answer: &[i64]) -> bool
     !read
 }
 
+// How many held rows there are: as many as are answered, if the list has so many.
 pub(crate) fn held_count(answer: &[i64], held: &[i64]) -> usize
     ensures { λ r. ⌜ r ≡ rowCount heldWidth (cell (now (answer .entry)) 2) (now (held .entry)) ⌝ }
 {
     fewer(count_at(answer, 2), held.len() / report::HELD_WIDTH)
 }
 
+// How many entries.
 pub(crate) fn entry_count(answer: &[i64], entries: &[i64]) -> usize
     ensures { λ r. ⌜ r ≡ rowCount entryWidth (cell (now (answer .entry)) 3) (now (entries .entry)) ⌝ }
 {
     fewer(count_at(answer, 3), entries.len() / report::ENTRY_WIDTH)
 }
 
+// How many unmapped elements.
 pub(crate) fn unmapped_count(answer: &[i64], unmapped: &[i64]) -> usize
     ensures { λ r. ⌜ r ≡ rowCount unmappedWidth (cell (now (answer .entry)) 4) (now (unmapped .entry)) ⌝ }
 {

@@ -12,6 +12,7 @@ pub(crate) fn byte_at(table: &[u8], k: usize) -> u8
     0
 }
 
+// A byte as a place.
 pub(crate) fn wide(b: u8) -> usize
     ensures { λ r. ⌜ r ≡ b ⌝ }
 {

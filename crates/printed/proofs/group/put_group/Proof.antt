@@ -7,7 +7,10 @@ use Rattle.printed.proofs.group.put_group.Statement.{statement}
 use Rattle.printed.proofs.group.put_group.Tie as tie
 
 returns : tie.Need-returns
-returns c = placed-as (ap (groupNumbers _) (group-known (c .before .before .before .before .before .before .before .before .before .args .k) (c .before .before .before .before .before .byte-at .ensures) (c .before .before .before .byte-at2 .ensures))) (c .before .before .put-group-at .ensures)
+returns c =
+    let b = c .before .before .before .before .before in
+    let b′ = b .before .before .before .before in
+    placed-as (ap (groupNumbers _) (group-known (b′ .args .k) (b .byte-at .ensures) (c .before .before .before .byte-at2 .ensures))) (c .before .before .put-group-at .ensures)
 
 pub put-group-spec : {M : Type 1} → statement M
 put-group-spec =

@@ -9,7 +9,13 @@ returns c = group-none _ _ _ (c .before .before .wide .ensures) (c .before .coun
 
 returns-2 : tie.Need-returns-2
 unfolding bytes encode
-returns-2 c = group-put _ _ _ (c .before .before .before .before .before .before .before .before .before .before .before .before .before .before .before .before .wide .ensures) (c .before .before .before .before .before .before .before .before .before .before .before .before .before .before .before .count-at .ensures) (c .before .before .before .before .before .before .before .before .before .before .before .before .before .before .if1 .left) (c .before .before .before .before .before .before .before .before .before .before .before .put-bytes .ensures) (c .before .before .before .before .before .before .before .put-decimal .ensures) (c .before .before .put-bytes2 .ensures)
+returns-2 c =
+    let b = c .before .before .before .before .before .before .before in
+    let b′ = b .before .before .before .before in
+    let b′′ = b′ .before .before .before in
+    let b′′′ = b′′ .before in
+    let b′′′′ = b′′′ .before in
+    group-put _ _ _ (b′′′′ .wide .ensures) (b′′′ .count-at .ensures) (b′′ .if1 .left) (b′ .put-bytes .ensures) (b .put-decimal .ensures) (c .before .before .put-bytes2 .ensures)
 
 pub put-group-at-spec : {M : Type 1} → statement M
 put-group-at-spec =

@@ -6,7 +6,9 @@ use Rattle.printed.proofs.line.put_entry_at.Statement.{statement}
 use Rattle.printed.proofs.line.put_entry_at.Tie as tie
 
 returns : tie.Need-returns
-returns c = cut-put (entryNumbers _) _ (c .before .before .before .before .before .before .before .args .j) entryWidth (c .before .before .put-entry .ensures)
+returns c =
+    let b = c .before .before .before .before .before .before .before in
+    cut-put (entryNumbers _) _ (b .args .j) entryWidth (c .before .before .put-entry .ensures)
 
 pub put-entry-at-spec : {M : Type 1} → statement M
 put-entry-at-spec =

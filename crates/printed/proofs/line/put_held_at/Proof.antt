@@ -6,7 +6,9 @@ use Rattle.printed.proofs.line.put_held_at.Statement.{statement}
 use Rattle.printed.proofs.line.put_held_at.Tie as tie
 
 returns : tie.Need-returns
-returns c = cut-put (heldNumbers _) _ (c .before .before .before .before .before .before .before .args .j) heldWidth (c .before .before .put-held .ensures)
+returns c =
+    let b = c .before .before .before .before .before .before .before in
+    cut-put (heldNumbers _) _ (b .args .j) heldWidth (c .before .before .put-held .ensures)
 
 pub put-held-at-spec : {M : Type 1} → statement M
 put-held-at-spec =

@@ -6,7 +6,9 @@ use Rattle.printed.proofs.line.put_unmapped_at.Statement.{statement}
 use Rattle.printed.proofs.line.put_unmapped_at.Tie as tie
 
 returns : tie.Need-returns
-returns c = cut-put (unmappedNumbers _) _ (c .before .before .before .before .before .before .before .args .j) unmappedWidth (c .before .before .put-unmapped .ensures)
+returns c =
+    let b = c .before .before .before .before .before .before .before in
+    cut-put (unmappedNumbers _) _ (b .args .j) unmappedWidth (c .before .before .put-unmapped .ensures)
 
 pub put-unmapped-at-spec : {M : Type 1} → statement M
 put-unmapped-at-spec =

@@ -6,7 +6,11 @@ use Rattle.printed.proofs.row.put_entry.Tie as tie
 
 returns : tie.Need-returns
 unfolding columnOf columnsOf
-returns c = entry-put _ _ (c .before .before .before .before .before .before .before .before .before .before .before .before .before .before .before .before .put-entry-start .ensures) (c .before .before .before .before .before .before .before .before .before .before .before .before .put-term .ensures) (c .before .before .before .before .before .before .before .put-fields .ensures) (c .before .before .put-bytes .ensures)
+returns c =
+    let b = c .before .before .before .before .before .before .before in
+    let b′ = b .before .before .before .before .before in
+    let b′′ = b′ .before .before .before .before in
+    entry-put _ _ (b′′ .put-entry-start .ensures) (b′ .put-term .ensures) (b .put-fields .ensures) (c .before .before .put-bytes .ensures)
 
 pub put-entry-spec : {M : Type 1} → statement M
 put-entry-spec =

@@ -7,7 +7,10 @@ use Rattle.printed.proofs.row.put_entry_start.Tie as tie
 
 returns : tie.Need-returns
 unfolding bytes encode columnOf columnsOf
-returns c = start-put _ _ (c .before .before .before .before .before .before .before .before .before .before .before .put-bytes .ensures) (c .before .before .before .before .before .before .put-fields .ensures) (c .before .before .put-path .ensures)
+returns c =
+    let b = c .before .before .before .before .before .before in
+    let b′ = b .before .before .before .before .before in
+    start-put _ _ (b′ .put-bytes .ensures) (b .put-fields .ensures) (c .before .before .put-path .ensures)
 
 pub put-entry-start-spec : {M : Type 1} → statement M
 put-entry-start-spec =

@@ -10,23 +10,38 @@ use Rattle.printed.proofs.row.put_held.Tie as tie
 
 returns : tie.Need-returns
 unfolding heldColumns line bytes encode columnOf columnsOf
-returns c = held-put _ _ (c .before .before .before .before .before .before .before .count-at .ensures) (ap heldColumns (c .before .before .before .before .before .before .match .keys1)) (c .before .before .put-row-line .ensures)
+returns c =
+    let b = c .before .before .before .before .before .before in
+    let b′ = b .before in
+    held-put _ _ (b′ .count-at .ensures) (ap heldColumns (b .match .keys1)) (c .before .before .put-row-line .ensures)
 
 returns-2 : tie.Need-returns-2
 unfolding heldColumns line bytes encode columnOf columnsOf
-returns-2 c = held-put _ _ (c .before .before .before .before .before .before .before .count-at .ensures) (ap heldColumns (c .before .before .before .before .before .before .match .keys2)) (c .before .before .put-row-line2 .ensures)
+returns-2 c =
+    let b = c .before .before .before .before .before .before in
+    let b′ = b .before in
+    held-put _ _ (b′ .count-at .ensures) (ap heldColumns (b .match .keys2)) (c .before .before .put-row-line2 .ensures)
 
 returns-3 : tie.Need-returns-3
 unfolding heldColumns line bytes encode columnOf columnsOf
-returns-3 c = held-put _ _ (c .before .before .before .before .before .before .before .count-at .ensures) (ap heldColumns (c .before .before .before .before .before .before .match .keys3)) (c .before .before .put-row-line3 .ensures)
+returns-3 c =
+    let b = c .before .before .before .before .before .before in
+    let b′ = b .before in
+    held-put _ _ (b′ .count-at .ensures) (ap heldColumns (b .match .keys3)) (c .before .before .put-row-line3 .ensures)
 
 returns-4 : tie.Need-returns-4
 unfolding heldColumns line bytes encode columnOf columnsOf
-returns-4 c = held-put _ _ (c .before .before .before .before .before .before .before .count-at .ensures) (ap heldColumns (c .before .before .before .before .before .before .match .keys4)) (c .before .before .put-row-line4 .ensures)
+returns-4 c =
+    let b = c .before .before .before .before .before .before in
+    let b′ = b .before in
+    held-put _ _ (b′ .count-at .ensures) (ap heldColumns (b .match .keys4)) (c .before .before .put-row-line4 .ensures)
 
 returns-5 : tie.Need-returns-5
 unfolding heldColumns line bytes encode columnOf columnsOf
-returns-5 c = held-put _ _ (c .before .before .before .before .before .before .before .count-at .ensures) (ap heldColumns (c .before .before .before .before .before .before .match .keys5)) (c .before .before .put-row-line5 .ensures)
+returns-5 c =
+    let b = c .before .before .before .before .before .before in
+    let b′ = b .before in
+    held-put _ _ (b′ .count-at .ensures) (ap heldColumns (b .match .keys5)) (c .before .before .put-row-line5 .ensures)
 
 returns-6 : tie.Need-returns-6
 unfolding heldColumns line bytes encode columnOf columnsOf

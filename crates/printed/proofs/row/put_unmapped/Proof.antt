@@ -6,7 +6,10 @@ use Rattle.printed.proofs.row.put_unmapped.Tie as tie
 
 returns : tie.Need-returns
 unfolding bytes encode
-returns c = unmapped-put _ _ (c .before .before .before .before .before .before .before .before .before .before .before .put-bytes .ensures) (c .before .before .before .before .before .before .before .put-element .ensures) (c .before .before .put-bytes2 .ensures)
+returns c =
+    let b = c .before .before .before .before .before .before .before in
+    let b′ = b .before .before .before .before in
+    unmapped-put _ _ (b′ .put-bytes .ensures) (b .put-element .ensures) (c .before .before .put-bytes2 .ensures)
 
 pub put-unmapped-spec : {M : Type 1} → statement M
 put-unmapped-spec =

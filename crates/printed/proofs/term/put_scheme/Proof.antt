@@ -13,7 +13,12 @@ returns-2 c = scheme-absent _ _ _ _ _ _ (c .before .before .before .is-identifie
 
 returns-3 : tie.Need-returns-3
 unfolding columnOf columnsOf
-returns-3 c = scheme-put _ _ _ _ (c .before .before .before .before .before .before .before .before .is-identifier .ensures) (not-false _ (c .before .before .before .before .before .before .before .if1 .left)) (c .before .before .before .before .before .before .is-present .ensures) (not-false _ (c .before .before .before .before .before .if2 .left)) (c .before .before .put-fields .ensures)
+returns-3 c =
+    let b = c .before .before .before .before .before in
+    let b′ = b .before in
+    let b′′ = b′ .before in
+    let b′′′ = b′′ .before in
+    scheme-put _ _ _ _ (b′′′ .is-identifier .ensures) (not-false _ (b′′ .if1 .left)) (b′ .is-present .ensures) (not-false _ (b .if2 .left)) (c .before .before .put-fields .ensures)
 
 pub put-scheme-spec : {M : Type 1} → statement M
 put-scheme-spec =

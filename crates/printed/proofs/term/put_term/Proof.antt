@@ -10,7 +10,12 @@ use Rattle.printed.proofs.term.put_term.Tie as tie
 
 returns : tie.Need-returns
 unfolding bytes encode columnOf columnsOf
-returns c = placed-as (ap (termNumbers _ _) (term-known (bytes "ttdddtttttddttttttttnaanaanaan") (c .before .before .before .before .before .before .before .before .before .before .before .before .before .args .k) refl refl (c .before .before .before .before .before .before .before .before .before .byte-at .ensures) (c .before .before .before .before .before .before .before .byte-at2 .ensures) (c .before .before .before .before .before .byte-at3 .ensures) (c .before .before .before .wide .ensures))) (c .before .before .put-term-at .ensures)
+returns c =
+    let b = c .before .before .before .before .before in
+    let b′ = b .before .before in
+    let b′′ = b′ .before .before in
+    let b′′′ = b′′ .before .before .before .before in
+    placed-as (ap (termNumbers _ _) (term-known (bytes "ttdddtttttddttttttttnaanaanaan") (b′′′ .args .k) refl refl (b′′ .byte-at .ensures) (b′ .byte-at2 .ensures) (b .byte-at3 .ensures) (c .before .before .before .wide .ensures))) (c .before .before .put-term-at .ensures)
 
 pub put-term-spec : {M : Type 1} → statement M
 put-term-spec =

@@ -9,7 +9,13 @@ returns c = term-absent _ _ _ _ _ (c .before .is-present .ensures) _ (not-true _
 
 returns-2 : tie.Need-returns-2
 unfolding columnsOf
-returns-2 c = term-line-put _ _ _ _ _ (c .before .before .before .before .before .before .before .before .before .before .before .before .before .before .before .before .before .before .before .is-present .ensures) (not-false _ (c .before .before .before .before .before .before .before .before .before .before .before .before .before .before .before .before .before .before .if1 .left)) (c .before .before .before .before .before .before .before .before .before .before .before .before .before .before .before .before .put-term-number .ensures) (c .before .before .before .before .before .before .before .before .before .before .before .put-fields .ensures) (c .before .before .before .before .before .before .before .put-scheme .ensures) (c .before .before .put-bytes .ensures)
+returns-2 c =
+    let b = c .before .before .before .before .before .before .before in
+    let b′ = b .before .before .before .before in
+    let b′′ = b′ .before .before .before .before .before in
+    let b′′′ = b′′ .before .before in
+    let b′′′′ = b′′′ .before in
+    term-line-put _ _ _ _ _ (b′′′′ .is-present .ensures) (not-false _ (b′′′ .if1 .left)) (b′′ .put-term-number .ensures) (b′ .put-fields .ensures) (b .put-scheme .ensures) (c .before .before .put-bytes .ensures)
 
 pub put-term-at-spec : {M : Type 1} → statement M
 put-term-at-spec =

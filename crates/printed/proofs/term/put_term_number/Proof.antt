@@ -6,7 +6,9 @@ use Rattle.printed.proofs.term.put_term_number.Tie as tie
 
 returns : tie.Need-returns
 unfolding bytes encode
-returns c = placed-then (c .before .before .before .before .before .before .put-bytes .ensures) (c .before .before .put-decimal .ensures)
+returns c =
+    let b = c .before .before .before .before .before .before in
+    placed-then (b .put-bytes .ensures) (c .before .before .put-decimal .ensures)
 
 pub put-term-number-spec : {M : Type 1} → statement M
 put-term-number-spec =
