@@ -53,7 +53,7 @@ put-front l vs e h = e ∙ put-eq l 0 vs (omega arith) ∙ ap (λ (n : ℕ). vs 
 read-as : {L : Lent} {D D′ : Doc ℕ Place} {x cs cs′ : List ℕ} {s : State.State} {h h′ e e′ u u′ : List ℤ} → D ≡ D′ → cs ≡ cs′ → Read L D x cs s h h′ e e′ u u′ → Read L D′ x cs′ s h h′ e e′ u u′
 read-as p q r = rw (p, q) at r
 
--- a table linked in an array of zeros with room for every record, which has at most 4,096: the links spell its own document
+-- the links of a table made in an array of zeros, at most 12,288, with room for every record: they spell its own document
 pub own-document : (t x l : List ℕ) (n : ℕ) → l ≡ linkAll t (replicate n 0) → records t * 3 ≤ n → n ≤ 12288 → Spelled t x l
 own-document t x l n e h k =
     let z = length-replicate {A = ℕ} n 0 in
@@ -62,7 +62,7 @@ own-document t x l n e h k =
       few = omega (arith, z, link-length t (replicate n 0), ap length e);
     }
 
--- by such links all children are read
+-- by links that do, all children are read
 own-children : (t x l : List ℕ) → Spelled t x l → countable l (linkDoc t x l .kids 0) ≡ kids t 0
 unfolding tableDoc
 own-children t x l s = rw (le-leb (length l) 12288 (s .few)) (ap (λ (D : Doc ℕ Place). D .kids 0) (s .document))
