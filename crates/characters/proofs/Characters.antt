@@ -1,13 +1,14 @@
 -- Laws of the characters of bytes: what the character at the front is made of, and the turns of the loops over characters.
 use mathlib.Core.Path.{_≡_, refl, sym, _∙_, ap}
-use mathlib.Core.Bool.{Bool, true, false, cond, _&&_}
+use mathlib.Core.Bool.{Bool, true, false, cond, _&&_, and-true}
 use mathlib.Core.List.{List, [], _∷_}
 use Prim.Native.Nat.{ℕ, zero, suc, pred, _+_, _*_, _-_, _%_, _≤_, _<_}
 use native.Mathlib.Omega.{arith}
+use native.Mathlib.Numerals.{add-one}
 use native.Mathlib.Nat.{add-zero}
 use native.Mathlib.Decide.{decLt}
-use borrow.Author.Tests.{leb-true}
-use lib.Dec.{leb}
+use borrow.Author.Tests.{leb-true, ltb-true, lt-ltb}
+use lib.Dec.{ltb, leb}
 use lib.ListN.{length, getD, drop, length-drop, drop-of-length-le, List·getD-eq-default}
 use lib.Seq.{drop-cons, drop-drop, getD-drop}
 use Rattle.text.specs.Range.{within}
@@ -15,7 +16,7 @@ use Rattle.text.proofs.Bools.{both}
 use Rattle.text.proofs.Ranges.{within-range, within-yes}
 use Rattle.characters.specs.declared.utf8.Char.{Char}
 use Rattle.characters.specs.declared.utf8.Char.the-variants.{Bad, Point}
-use Rattle.characters.specs.Characters.{isScalar, tail, scalar, two, three, four, charOf, front, size, chars, good, allGood, utf8}
+use Rattle.characters.specs.Characters.{isScalar, tail, scalar, two, three, four, charOf, front, size, chars, good, allGood, utf8, ascii}
 
 not-bad : {c m : ℕ} → Bad ≡ Point c m → ⊥
 not-bad e = let w : _≡_ {A = ℕ} 0 1 = cc in omega arith
@@ -170,3 +171,41 @@ module _ (s : List ℕ) (i : ℕ) (h : i < length s) (x : Char) (ex : x ≡ fron
     pub good-on : utf8 s ≡ goodFrom s i → (b : Bool) → b ≡ good x → b ≡ true → utf8 s ≡ goodFrom s (i + n)
     unfolding allGood
     good-on e b q f = e ∙ ap allGood turn-chars ∙ rw (← q, f)
+
+-- ASCII is UTF-8
+ascii-good : (s : List ℕ) → ascii s ≡ true → allGood (chars 0 s) ≡ true
+unfolding ascii chars allGood
+ascii-good [] e = refl
+ascii-good (b ∷ s) e =
+    let p = both (ltb b 0x80) (ascii s) e in
+    rw (front-one (b ∷ s) (omega (arith, ltb-true b 0x80 (p .0)))) (ascii-good s (p .1))
+
+pub ascii-utf8 : (s : List ℕ) → (b : Bool) → b ≡ ascii s → b ≡ true → true ≡ utf8 s
+unfolding utf8
+ascii-utf8 s b q f = sym (ascii-good s (sym q ∙ f))
+
+-- of two limits in a row the lower one tells
+capped : (p q r : Bool) → (q ≡ true → p ≡ true) → (p && (q && r)) ≡ (q && r)
+capped true q r h = refl
+capped false true r h = let e = h refl in cc
+capped false false r h = refl
+
+kept : (p q r : Bool) → (p ≡ true → q ≡ true) → (p && (q && r)) ≡ (p && r)
+kept true q r h = rw (h refl)
+kept false q r h = refl
+
+-- the loop of `is_ascii`, at i, with the greatest octet so far: a greater one, one that is not, ended
+module _ (s : List ℕ) (i g : ℕ) (e : ascii s ≡ (ltb g 0x80 && ascii (drop i s))) where
+  pub ascii-greater : i < length s → g < getD s i 0 → {k : ℕ} → k ≡ getD s i 0 → ascii s ≡ (ltb k 0x80 && ascii (drop (i + 1) s))
+  unfolding ascii
+  ascii-greater h l u =
+      e ∙ rw (u, add-one, drop-cons s i 0) (capped (ltb g 0x80) (ltb (getD s i 0) 0x80) (ascii (drop (suc i) s)) (λ t. lt-ltb g 0x80 (omega (arith, ltb-true (getD s i 0) 0x80 t))))
+
+  pub ascii-on : i < length s → getD s i 0 ≤ g → {k : ℕ} → k ≡ g → ascii s ≡ (ltb k 0x80 && ascii (drop (i + 1) s))
+  unfolding ascii
+  ascii-on h l u =
+      e ∙ rw (u, add-one, drop-cons s i 0) (kept (ltb g 0x80) (ltb (getD s i 0) 0x80) (ascii (drop (suc i) s)) (λ t. lt-ltb (getD s i 0) 0x80 (omega (arith, ltb-true g 0x80 t))))
+
+  pub ascii-end : length s ≤ i → ltb g 0x80 ≡ ascii s
+  unfolding ascii
+  ascii-end h = sym (e ∙ rw (drop-of-length-le s h) (and-true (ltb g 0x80)))

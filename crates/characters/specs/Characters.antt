@@ -2,7 +2,7 @@
 use mathlib.Core.Bool.{Bool, true, false, cond, _&&_, _||_}
 use mathlib.Core.List.{List, [], _∷_, _++_}
 use Prim.Native.Nat.{ℕ, zero, suc, pred, _+_, _*_, _%_}
-use lib.Dec.{leb}
+use lib.Dec.{ltb, leb}
 use lib.ListN.{getD}
 use Rattle.text.specs.Range.{within}
 use Rattle.text.specs.Utf8.{encode}
@@ -79,3 +79,8 @@ allGood (x ∷ xs) = good x && allGood xs
 -- UTF8-octets = *( UTF8-char ) (section 4)
 unfoldable pub utf8 : List ℕ → Bool
 utf8 s = allGood (chars 0 s)
+
+-- octets 00 to 7F only, each a character of its own (section 3)
+unfoldable pub ascii : List ℕ → Bool
+ascii [] = true
+ascii (b ∷ s) = ltb b 0x80 && ascii s

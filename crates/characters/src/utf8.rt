@@ -2,7 +2,7 @@
 ghost use mathlib.Core.Path.{_≡_};
 ghost use Prim.Native.Nat.{_+_, _*_, _%_, _<_};
 ghost use lib.ListN.{length, getD, drop};
-ghost use Rattle.characters.specs.Characters.{isScalar, tail, scalar, two, three, four, charOf, front, size, good, utf8};
+ghost use Rattle.characters.specs.Characters.{isScalar, tail, scalar, two, three, four, charOf, front, size, good, ascii, utf8};
 use crate::range::is_within;
 
 // What stands at the front of bytes: a character's code point and the number of its bytes, or
@@ -158,8 +158,24 @@ pub(crate) fn is_good(x: Char) -> bool
     }
 }
 
-// Whether s is UTF-8.
-pub fn is_utf8(s: &[u8]) -> bool
+// Whether s is ASCII: no byte is above 7F. The loop looks at all bytes, for one that could stop early
+// would look at one byte at a time.
+fn is_ascii(s: &[u8]) -> bool
+    ensures { λ r. ⌜ r ≡ ascii (now (s .entry)) ⌝ }
+{
+    let mut greatest = 0;
+    let mut i = 0;
+    while i < s.len() {
+        if greatest < s[i] {
+            greatest = s[i];
+        }
+        i += 1;
+    }
+    greatest < 0x80
+}
+
+// Whether s is UTF-8, character by character.
+fn is_utf8_each(s: &[u8]) -> bool
     ensures { λ r. ⌜ r ≡ utf8 (now (s .entry)) ⌝ }
 {
     let mut i = 0;
@@ -172,4 +188,14 @@ pub fn is_utf8(s: &[u8]) -> bool
         }
     }
     true
+}
+
+// Whether s is UTF-8, as ASCII is without a look at its characters.
+pub fn is_utf8(s: &[u8]) -> bool
+    ensures { λ r. ⌜ r ≡ utf8 (now (s .entry)) ⌝ }
+{
+    if is_ascii(s) {
+        return true;
+    }
+    is_utf8_each(s)
 }

@@ -3,16 +3,15 @@ use mathlib.Core.Path.{_≡_, refl, ap, _∙_}
 use mathlib.Core.Bool.{true, false}
 use mathlib.Core.List.{List, _++_}
 use mathlib.Core.Option.{none}
-use Prim.Native.Nat.{ℕ, _+_, _/_, _≤_}
+use Prim.Native.Nat.{ℕ, _+_, _*_, _/_, _≤_}
 use native.Mathlib.Omega.{arith}
 use borrow.Author.Tests.{le-leb}
 use lib.IntN.{ℤ}
 use lib.ListN.{length, drop, replicate, length-replicate}
-use Rattle.table.specs.Table.{kids}
+use Rattle.table.specs.Table.{records, kids}
 use Rattle.refusals.specs.Refusals.{refuse, atRoot, refusal}
-use Rattle.refusals.proofs.Accepting.{accepted-is}
-use Rattle.links.specs.Links.{roomy, linkAll}
-use Rattle.links.proofs.Linking.{linked-kids, link-length, roomy-is, blank-zeros}
+use Rattle.links.specs.Links.{linkAll}
+use Rattle.links.proofs.Linking.{link-length, roomy-is, blank-zeros}
 use Rattle.names.specs.Put.{put}
 use Rattle.names.proofs.Puts.{put-eq}
 use Rattle.report.specs.Rows.{Place}
@@ -42,6 +41,7 @@ use Rattle.children.specs.declared.state.State as State
 use Rattle.reader.specs.Answers.{termsOf, Refused}
 use Rattle.reader.specs.Answered.{roomOf, Answered}
 use Rattle.reader.specs.Endings.{Ended}
+use Rattle.reader.specs.Spelled.{Spelled}
 use Rattle.reader.specs.declared.answer.Answer as Code
 use Rattle.reader.specs.declared.ending.Finished as Finished
 
@@ -53,34 +53,31 @@ put-front l vs e h = e ∙ put-eq l 0 vs (omega arith) ∙ ap (λ (n : ℕ). vs 
 read-as : {L : Lent} {D D′ : Doc ℕ Place} {x cs cs′ : List ℕ} {s : State.State} {h h′ e e′ u u′ : List ℤ} → D ≡ D′ → cs ≡ cs′ → Read L D x cs s h h′ e e′ u u′ → Read L D′ x cs′ s h h′ e e′ u u′
 read-as p q r = rw (p, q) at r
 
--- all records of an accepted table are linked, in an array of zeros
-module _ (t x : List ℕ) (accepted : refusal t x ≡ none) where
-  room-for-links : roomy t (replicate 12288 0) ≡ true
-  room-for-links =
-      let n = accepted-is t x accepted .few-records in
-      roomy-is t (replicate 12288 0) (omega (arith, n, length-replicate {A = ℕ} 12288 0)) (omega (arith, n))
+-- the links of a table made in an array of zeros, at most 12,288, with room for every record: they spell its own document
+pub own-document : (t x l : List ℕ) (n : ℕ) → l ≡ linkAll t (replicate n 0) → records t * 3 ≤ n → n ≤ 12288 → Spelled t x l
+own-document t x l n e h k =
+    let z = length-replicate {A = ℕ} n 0 in
+    record {
+      document = rw e (linked-doc t x (replicate n 0) (roomy-is t (replicate n 0) (omega (arith, z)) (omega arith)) (blank-zeros n));
+      few = omega (arith, z, link-length t (replicate n 0), ap length e);
+    }
 
-  -- the document is the table's own
-  own-document : linkDoc t x (linkAll t (replicate 12288 0)) ≡ tableDoc t x
-  own-document = linked-doc t x (replicate 12288 0) room-for-links (blank-zeros 12288)
-
-  -- all children are read
-  own-children : countable (linkAll t (replicate 12288 0)) (linkDoc t x (linkAll t (replicate 12288 0)) .kids 0) ≡ kids t 0
-  own-children =
-      rw (le-leb (length (linkAll t (replicate 12288 0))) 12288 (omega (arith, link-length t (replicate 12288 0), length-replicate {A = ℕ} 12288 0)))
-      (ap (λ (f : ℕ → List ℕ). f 0) (linked-kids t (replicate 12288 0) room-for-links (blank-zeros 12288)))
+-- by links that do, all children are read
+own-children : (t x l : List ℕ) → Spelled t x l → countable l (linkDoc t x l .kids 0) ≡ kids t 0
+unfolding tableDoc
+own-children t x l s = rw (le-leb (length l) 12288 (s .few)) (ap (λ (D : Doc ℕ Place). D .kids 0) (s .document))
 
 module _
     (L : Lent) (t x : List ℕ) {h h′ e e₁ e′ u u′ : List ℤ} {s : State.State} {f : Finished.Finished}
     (accepted : refusal t x ≡ none) (room : cramped (roomOf h e u) t ≡ false)
-    (l : List ℕ) (linked : l ≡ linkAll t (replicate 12288 0))
+    (l : List ℕ) (spelled : Spelled t x l)
     (walked : Read L (linkDoc t x l) x (countable l (linkDoc t x l .kids 0)) s h h′ e e₁ u u′)
     (ended : Ended (reading.termsOf (stateOf s)) (reading.lateOf (L .rules) (stateOf s)) e₁ (s .at) f e′) where
   abbrev whole : Reading Place
   whole = reading.reading L (tableDoc t x) 0
 
   all-read : Read L (tableDoc t x) x (kids t 0) s h h′ e e₁ u u′
-  all-read = read-as (own-document t x accepted) (own-children t x accepted) (rw linked at walked)
+  all-read = read-as (spelled .document) (own-children t x l spelled) walked
 
   fits : Fits (roomOf h e u) whole
   fits = reading-fits L (roomOf h e u) t x accepted room

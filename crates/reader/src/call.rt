@@ -10,6 +10,7 @@ ghost use Rattle.settlement.specs.Settlement.{reading};
 ghost use Rattle.settlement.specs.TableDoc.{tableDoc};
 ghost use Rattle.values.specs.Sites.{lentWith};
 ghost use Rattle.reader.specs.Answered.{roomOf, Answered};
+ghost use Rattle.reader.specs.Spelled.{Spelled};
 use crate::answer::Answer;
 use crate::answer::refused;
 use crate::ending::finish;
@@ -35,10 +36,11 @@ fn is_cramped(n: usize, held: usize, entries: usize, unmapped: usize) -> bool
     false
 }
 
-// Reads the settlement of an accepted table into lists with room.
-fn read_settlement(
+// Reads the settlement of an accepted table into lists with room, by links that spell its document.
+fn read_linked(
     table: &[u32],
     text: &[u8],
+    links: &[u16],
     currency: &[u8],
     identifier: &[u8],
     rules: u32,
@@ -47,15 +49,13 @@ fn read_settlement(
     entries: &mut [i64],
     unmapped: &mut [i64],
 ) -> Answer
-    requires { ⌜ (refusal (now table) (now text) ≡ none) × (cramped (roomOf (now held) (now entries) (now unmapped)) (now table) ≡ false) ⌝ }
+    requires { ⌜ (refusal (now table) (now text) ≡ none) × (cramped (roomOf (now held) (now entries) (now unmapped)) (now table) ≡ false) × Spelled (now table) (now text) (now links) ⌝ }
     ensures { λ r. ⌜ Answered (read (reading (lentWith mode rules (now (currency .entry)) (now (identifier .entry))) (tableDoc (now (table .entry)) (now (text .entry))) 0)) r (now (held .entry)) (now (held .exit)) (now (entries .entry)) (now (entries .exit)) (now (unmapped .entry)) (now (unmapped .exit)) ⌝ }
 {
-    let mut links: [u16; 12288] = [0; 12288];
-    links::link(table, &mut links);
     let s = children::read_settlement(
         table,
         text,
-        &links,
+        links,
         mode,
         rules,
         currency,
@@ -74,6 +74,54 @@ fn read_settlement(
         unmapped: s.count,
         terms,
     }
+}
+
+// Links an accepted table in an array of zeros and reads its settlement into lists with room. Most
+// tables are small, and a small array is sooner filled.
+fn read_settlement(
+    table: &[u32],
+    text: &[u8],
+    currency: &[u8],
+    identifier: &[u8],
+    rules: u32,
+    mode: u32,
+    held: &mut [i64],
+    entries: &mut [i64],
+    unmapped: &mut [i64],
+) -> Answer
+    requires { ⌜ (refusal (now table) (now text) ≡ none) × (cramped (roomOf (now held) (now entries) (now unmapped)) (now table) ≡ false) ⌝ }
+    ensures { λ r. ⌜ Answered (read (reading (lentWith mode rules (now (currency .entry)) (now (identifier .entry))) (tableDoc (now (table .entry)) (now (text .entry))) 0)) r (now (held .entry)) (now (held .exit)) (now (entries .entry)) (now (entries .exit)) (now (unmapped .entry)) (now (unmapped .exit)) ⌝ }
+{
+    if table.len() / 6 <= 256 {
+        let mut few: [u16; 768] = [0; 768];
+        links::link(table, &mut few);
+        return read_linked(
+            table,
+            text,
+            &few,
+            currency,
+            identifier,
+            rules,
+            mode,
+            held,
+            entries,
+            unmapped,
+        );
+    }
+    let mut links: [u16; 12288] = [0; 12288];
+    links::link(table, &mut links);
+    read_linked(
+        table,
+        text,
+        &links,
+        currency,
+        identifier,
+        rules,
+        mode,
+        held,
+        entries,
+        unmapped,
+    )
 }
 
 // Reads the settlement of an accepted table, unless the lists have too little room.

@@ -1,6 +1,6 @@
 -- Laws of equality and order of texts, and the turns of the loops that compare them.
 use mathlib.Core.Path.{_≡_, refl, sym, _∙_, ap}
-use mathlib.Core.Bool.{Bool, true, false}
+use mathlib.Core.Bool.{Bool, true, false, _&&_, and-true, and-false}
 use mathlib.Core.List.{List, [], _∷_}
 use Prim.Native.Nat.{ℕ, _+_, _≤_, _<_, Ordering·lt, Ordering·eq, Ordering·gt}
 use native.Mathlib.Omega.{arith}
@@ -30,13 +30,26 @@ unfolding equal
 equal-refl [] = refl
 equal-refl (x ∷ s) = rw (eq-eqb x x refl) (equal-refl s)
 
--- texts of different lengths
-pub equal-lengths : (s t : List ℕ) → (length s ≡ length t → ⊥) → false ≡ equal s t
-equal-lengths s t n = go (equal s t) refl
+-- texts that differ in anything
+differ : {A : Type 0} (f : List ℕ → A) (s t : List ℕ) → (f s ≡ f t → ⊥) → false ≡ equal s t
+differ f s t n = go (equal s t) refl
   where
     go : (b : Bool) → equal s t ≡ b → false ≡ b
-    go true e = absurd (n (ap length (equal-is s t e)))
+    go true e = absurd (n (ap f (equal-is s t e)))
     go false e = refl
+
+-- texts of different lengths, of different first bytes, of none
+pub equal-lengths : (s t : List ℕ) → (length s ≡ length t → ⊥) → false ≡ equal s t
+equal-lengths s t n = differ length s t n
+
+pub equal-firsts : (s t : List ℕ) → (getD s 0 0 ≡ getD t 0 0 → ⊥) → false ≡ equal s t
+equal-firsts s t n = differ (λ (l : List ℕ). getD l 0 0) s t n
+
+pub equal-none : (s t : List ℕ) → length s ≡ length t → length s ≡ 0 → true ≡ equal s t
+unfolding equal
+equal-none [] [] e h = refl
+equal-none [] (y ∷ t) e h = absurd (omega arith)
+equal-none (x ∷ s) t e h = absurd (omega arith)
 
 -- `order` is a total order, and its equality is that of lists
 pub order-refl : (s : List ℕ) → order s s ≡ Ordering·eq
@@ -121,19 +134,19 @@ order-trans (x ∷ s) (y ∷ t) (z ∷ u) e f = go (heads x y) (heads y z) (orde
     go (less h) (more k) r = gt≢lt (sym (greater-first y z t u k) ∙ f)
     go (alike p) (more k) r = gt≢lt (sym (greater-first y z t u k) ∙ f)
 
--- the loop of `same`, at i: alike, different, ended
-module _ (s t : List ℕ) (i : ℕ) (e : equal s t ≡ equal (drop i s) (drop i t)) (l : length s ≡ length t) where
-  pub equal-on : i < length s → getD s i 0 ≡ getD t i 0 → equal s t ≡ equal (drop (i + 1) s) (drop (i + 1) t)
+-- the loop of `same_each`, at i, where all were alike so far or not: alike, different, ended
+module _ (s t : List ℕ) (i : ℕ) (p : Bool) (e : equal s t ≡ (p && equal (drop i s) (drop i t))) (l : length s ≡ length t) where
+  pub equal-on : i < length s → getD s i 0 ≡ getD t i 0 → {q : Bool} → q ≡ p → equal s t ≡ (q && equal (drop (i + 1) s) (drop (i + 1) t))
   unfolding equal
-  equal-on h q = e ∙ rw (add-one, drop-cons s i 0, drop-cons t i 0 (omega arith), eq-eqb _ _ q)
+  equal-on h g u = e ∙ rw (u, add-one, drop-cons s i 0, drop-cons t i 0 (omega arith), eq-eqb _ _ g)
 
-  pub equal-stop : i < length s → (getD s i 0 ≡ getD t i 0 → ⊥) → false ≡ equal s t
+  pub equal-off : i < length s → (getD s i 0 ≡ getD t i 0 → ⊥) → {q : Bool} → q ≡ false → equal s t ≡ (q && equal (drop (i + 1) s) (drop (i + 1) t))
   unfolding equal
-  equal-stop h n = sym (e ∙ rw (drop-cons s i 0, drop-cons t i 0 (omega arith), ne-eqb _ _ n))
+  equal-off h n u = e ∙ rw (u, drop-cons s i 0, drop-cons t i 0 (omega arith), ne-eqb _ _ n) (and-false p)
 
-  pub equal-end : length s ≤ i → true ≡ equal s t
+  pub equal-end : length s ≤ i → p ≡ equal s t
   unfolding equal
-  equal-end h = sym (e ∙ rw (drop-of-length-le s h, drop-of-length-le t {i = i} (omega arith)))
+  equal-end h = sym (e ∙ rw (drop-of-length-le s h, drop-of-length-le t {i = i} (omega arith)) (and-true p))
 
 -- the loop of `compare`, at i: the second ended, the first or the second is less, alike; and after it
 module _ (s t : List ℕ) (i : ℕ) (e : order s t ≡ order (drop i s) (drop i t)) where

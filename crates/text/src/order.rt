@@ -1,5 +1,6 @@
 // Two texts compared, byte by byte.
 ghost use mathlib.Core.Path.{_≡_};
+ghost use lib.ListN.{length};
 ghost use Rattle.text.specs.Order.{equal, order, ordering};
 
 // How one text stands to another.
@@ -9,21 +10,37 @@ pub enum Ordering {
     Greater,
 }
 
-// Whether a and b are the same bytes.
+// Whether a and b, of one length, are the same bytes. The loop looks at all bytes, for one that could
+// stop early would look at one byte at a time.
+fn same_each(a: &[u8], b: &[u8]) -> bool
+    requires { ⌜ length (now a) ≡ length (now b) ⌝ }
+    ensures { λ r. ⌜ r ≡ equal (now (a .entry)) (now (b .entry)) ⌝ }
+{
+    let mut alike = true;
+    let mut i = 0;
+    while i < a.len() {
+        if a[i] != b[i] {
+            alike = false;
+        }
+        i += 1;
+    }
+    alike
+}
+
+// Whether a and b are the same bytes. Most that are not differ in their lengths or first bytes.
 pub fn same(a: &[u8], b: &[u8]) -> bool
     ensures { λ r. ⌜ r ≡ equal (now (a .entry)) (now (b .entry)) ⌝ }
 {
     if a.len() != b.len() {
         return false;
     }
-    let mut i = 0;
-    while i < a.len() {
-        if a[i] != b[i] {
-            return false;
-        }
-        i += 1;
+    if a.len() == 0 {
+        return true;
     }
-    true
+    if a[0] != b[0] {
+        return false;
+    }
+    same_each(a, b)
 }
 
 // How a stands to b in the order of their bytes, a text before all that it begins.

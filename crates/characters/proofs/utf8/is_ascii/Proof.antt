@@ -1,0 +1,52 @@
+use mathlib.Core.Path.{_≡_, refl}
+use mathlib.Core.Bool.{_&&_}
+use mathlib.Core.Logic.{⊎-elim}
+use Prim.Native.Nat.{_≤_, _-_}
+use native.Mathlib.Omega.{arith}
+use lib.Dec.{ltb}
+use lib.ListN.{length, drop}
+use Rattle.characters.specs.Characters.{ascii}
+use Rattle.characters.proofs.Characters.{ascii-greater, ascii-on, ascii-end}
+use Rattle.characters.proofs.utf8.is_ascii.Statement.{statement}
+use Rattle.characters.proofs.utf8.is_ascii.Tie as tie
+
+abbrev Inv-loop : tie.InvT-loop
+Inv-loop s greatest₀ i₀ greatest i = (i ≤ length s) × (ascii s ≡ (ltb greatest 0x80 && ascii (drop i s)))
+
+abbrev μ-loop : tie.MeasureT-loop
+μ-loop s greatest₀ i₀ greatest i = length s - i
+
+loop-holds : tie.Need-loop-holds Inv-loop μ-loop
+loop-holds c = (omega arith, refl)
+
+shared-slice-read-if1 : tie.Need-shared-slice-read-if1 Inv-loop μ-loop
+shared-slice-read-if1 c = omega arith
+
+shared-slice-read-greatest : tie.Need-shared-slice-read-greatest Inv-loop μ-loop
+shared-slice-read-greatest c = omega arith
+
+add-i : tie.Need-add-i Inv-loop μ-loop
+add-i c = omega arith
+
+loop-less : tie.Need-loop-less Inv-loop μ-loop
+loop-less c = omega arith
+
+loop-again : tie.Need-loop-again Inv-loop μ-loop
+loop-again c = (omega arith, ⊎-elim (λ w. search ascii-greater) (λ w. search ascii-on) (c .if1 .came))
+
+returns : tie.Need-returns Inv-loop μ-loop
+returns c = search ascii-end
+
+pub is-ascii-spec : {M : Type 1} → statement M
+is-ascii-spec =
+    tie.close
+    (tie.spec
+    Inv-loop
+    μ-loop
+    loop-holds
+    shared-slice-read-if1
+    shared-slice-read-greatest
+    add-i
+    loop-less
+    loop-again
+    returns)
