@@ -5,6 +5,9 @@
 // ` :`, its text. `stdout` has the answers that the Rust gave, or that were worked out from document 01;
 // oracle/README.md says how both files were made.
 ghost use mathlib.Core.Path.{_≡_};
+ghost use Prim.Native.Nat.{_≤_};
+ghost use lib.ListN.{length};
+ghost use Rattle.replay.specs.Case.{spaceFrom, nextSpace, fieldsEnd};
 use inputs::Fields;
 use inputs::Line;
 use inputs::bytes_at;
@@ -17,17 +20,29 @@ fn print_unfit() {
     io::write_all(STDOUT, b"unfit\n");
 }
 
-// The next space behind a place, the end where there is none.
-fn next_space(line: &[u8], at: usize) -> usize {
+// The first space from a place on, the end where there is none.
+fn space_from(line: &[u8], from: usize) -> usize
+    requires { ⌜ from ≤ length (now line) ⌝ }
+    ensures { λ r. ⌜ r ≡ spaceFrom (now (line .entry)) from ⌝ }
+{
+    bytes::scan::find(line, from, line.len(), b' ')
+}
+
+// The next space behind a place.
+fn next_space(line: &[u8], at: usize) -> usize
+    ensures { λ r. ⌜ r ≡ nextSpace (now (line .entry)) at ⌝ }
+{
     if at < line.len() {
-        return bytes::scan::find(line, at + 1, line.len(), b' ');
+        return space_from(line, at + 1);
     }
     line.len()
 }
 
 // Where the fourth field ends.
-fn fields_end(line: &[u8]) -> usize {
-    let first = bytes::scan::find(line, 0, line.len(), b' ');
+fn fields_end(line: &[u8]) -> usize
+    ensures { λ r. ⌜ r ≡ fieldsEnd (now (line .entry)) ⌝ }
+{
+    let first = space_from(line, 0);
     let second = next_space(line, first);
     let third = next_space(line, second);
     next_space(line, third)
