@@ -49,7 +49,7 @@ fn fields_end(line: &[u8]) -> usize
 }
 
 // The reading of a table and its text, under what an input line says.
-fn print_table(input: &[u8], fields: Fields, table: &[u32], text: &[u8]) {
+fn print_fit(input: &[u8], fields: Fields, table: &[u32], text: &[u8]) {
     let currency = fields.currency;
     let identifier = fields.identifier;
     printer::print_reading(
@@ -62,21 +62,26 @@ fn print_table(input: &[u8], fields: Fields, table: &[u32], text: &[u8]) {
     );
 }
 
-// The parts of a case: input line, numbers, text, for which table and text are the space.
-fn print_parts(input: &[u8], numbers: &[u8], escaped: &[u8], table: &mut [u32], text: &mut [u8]) {
+// The same, unless the input line is unfit.
+fn print_table(input: &[u8], table: &[u32], text: &[u8]) {
     let line = inputs::parse_line(input);
+    match line {
+        Line::Fit(fields) => print_fit(input, fields, table, text),
+        Line::Unfit => print_unfit(),
+    }
+}
+
+// A case by its parts: input line, numbers, text, the table being the space for the numbers.
+fn print_parts(input: &[u8], numbers: &[u8], text: &[u8], table: &mut [u32]) {
     let n = cases::numbers(numbers, table);
-    let m = cases::fill(escaped, 0, text);
     if n <= table.len() {
-        match line {
-            Line::Fit(fields) => print_table(input, fields, &table[0..n], text::clip(text, 0, m)),
-            Line::Unfit => print_unfit(),
-        }
+        print_table(input, &table[0..n], text);
         return;
     }
     print_unfit();
 }
 
+// A case, for which table and text are the space. No numbers are an empty table.
 fn print_case(line: &[u8], table: &mut [u32], text: &mut [u8]) {
     let end = line.len();
     let head = fields_end(line);
@@ -90,13 +95,19 @@ fn print_case(line: &[u8], table: &mut [u32], text: &mut [u8]) {
         return;
     }
     let from = head + 1;
+    let after = colon + 1;
+    let m = cases::fill(&line[after..], 0, text);
     if colon <= from {
-        print_unfit();
+        print_table(&line[0..head], &table[0..0], text::clip(text, 0, m));
         return;
     }
     let to = colon - 1;
-    let after = colon + 1;
-    print_parts(&line[0..head], &line[from..to], &line[after..], table, text);
+    print_parts(
+        &line[0..head],
+        &line[from..to],
+        text::clip(text, 0, m),
+        table,
+    );
 }
 
 // Each line of the input, of which the last may lack its line feed.

@@ -1,8 +1,6 @@
 // The groups of the answer's row: payee, period, means and totals, each with a number that says whether
 // it is there.
 ghost use Rattle.report.specs.Placed.{Placed};
-ghost use Rattle.report.specs.Encoding.{textCells, amountCells, orAbsent};
-ghost use Rattle.report.specs.Values.{textOf, dayOf};
 ghost use Rattle.settlement.specs.Result.{identifierCells, payeeCells, periodCells, meansCells, totalsCells};
 ghost use Rattle.groups.specs.Groups.{maybeIdentifierOf};
 ghost use Rattle.payment.specs.Walks.{meansOf};
@@ -12,7 +10,6 @@ use children::MaybePayee;
 use children::MaybePeriod;
 use groups::MaybeIdentifier;
 use payment::Means;
-use report::Text;
 use report::amount_hundredths;
 use report::amount_present;
 use report::day_number;

@@ -3,67 +3,46 @@ use mathlib.Core.Path.{refl}
 use Rattle.report.proofs.Cells.{as-row, cell}
 use Rattle.rulzhamm.proofs.groups_row.put_identifier.Statement.{statement}
 use Rattle.rulzhamm.proofs.groups_row.put_identifier.Tie as tie
-use Rattle.rulzhamm.proofs.groups_row.put_identifier.Reads as reads
-use Rattle.rulzhamm.proofs.groups_row.put_identifier.Lts as lts
-use Rattle.report.proofs.put_row.Reads as put-row-reads
-use Rattle.report.proofs.place_length.Reads as place-length-reads
-use Rattle.report.proofs.place_start.Reads as place-start-reads
-use Rattle.report.proofs.text_length.Reads as text-length-reads
-use Rattle.report.proofs.text_start.Reads as text-start-reads
 
--- src/groups_row.rt:31:44
 enum-told : tie.Need-enum-told
 enum-told c = search needs
 
--- src/groups_row.rt:31:53
 slice-aggregate-put-row : tie.Need-slice-aggregate-put-row
 slice-aggregate-put-row c = search needs
 
--- src/groups_row.rt:31:36
 put-row-requires : tie.Need-put-row-requires
 put-row-requires c κs = search needs
 
--- src/groups_row.rt:32:29
 enum-known-i : tie.Need-enum-known-i
 enum-known-i c = search needs
 
--- src/groups_row.rt:36:17
 place-start-requires : tie.Need-place-start-requires
 place-start-requires c κs = search needs
 
--- src/groups_row.rt:37:17
 place-length-requires : tie.Need-place-length-requires
 place-length-requires c κs = search needs
 
--- src/groups_row.rt:38:17
 text-start-requires : tie.Need-text-start-requires
 text-start-requires c κs = search needs
 
--- src/groups_row.rt:39:17
 text-length-requires : tie.Need-text-length-requires
 text-length-requires c κs = search needs
 
--- src/groups_row.rt:41:30
 slice-aggregate-put-row-2 : tie.Need-slice-aggregate-put-row-2
 slice-aggregate-put-row-2 c = search needs
 
--- src/groups_row.rt:41:13
 put-row-requires-2 : tie.Need-put-row-requires-2
 put-row-requires-2 c κs = search needs
 
--- src/groups_row.rt:27:1
 same-length : tie.Need-same-length
 same-length c = search needs
 
--- src/groups_row.rt:27:1
 returns : tie.Need-returns
 returns c = rw (c .before .before .before .before .enum-told .given .1) (c .before .put-row .ensures)
 
--- src/groups_row.rt:27:1
 same-length-2 : tie.Need-same-length-2
 same-length-2 c = search needs
 
--- src/groups_row.rt:27:1
 returns-2 : tie.Need-returns-2
 returns-2 c =
     let p4 = c .before .before .before .before in

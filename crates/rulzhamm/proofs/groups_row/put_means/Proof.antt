@@ -3,105 +3,76 @@ use mathlib.Core.Path.{refl}
 use Rattle.report.proofs.Cells.{as-row, cell, literal}
 use Rattle.rulzhamm.proofs.groups_row.put_means.Statement.{statement}
 use Rattle.rulzhamm.proofs.groups_row.put_means.Tie as tie
-use Rattle.rulzhamm.proofs.groups_row.put_means.Reads as reads
-use Rattle.rulzhamm.proofs.groups_row.put_means.Lts as lts
-use Rattle.report.proofs.put_row.Reads as put-row-reads
-use Rattle.report.proofs.text_length.Reads as text-length-reads
-use Rattle.report.proofs.text_start.Reads as text-start-reads
 
--- src/groups_row.rt:84:33
 enum-told : tie.Need-enum-told
 enum-told c = search needs
 
--- src/groups_row.rt:84:42
 slice-aggregate-put-row : tie.Need-slice-aggregate-put-row
 slice-aggregate-put-row c = search needs
 
--- src/groups_row.rt:84:25
 put-row-requires : tie.Need-put-row-requires
 put-row-requires c κs = search needs
 
--- src/groups_row.rt:85:37
 enum-told-2 : tie.Need-enum-told-2
 enum-told-2 c = search needs
 
--- src/groups_row.rt:85:46
 slice-aggregate-put-row-2 : tie.Need-slice-aggregate-put-row-2
 slice-aggregate-put-row-2 c = search needs
 
--- src/groups_row.rt:85:29
 put-row-requires-2 : tie.Need-put-row-requires-2
 put-row-requires-2 c κs = search needs
 
--- src/groups_row.rt:86:21
 enum-known-m : tie.Need-enum-known-m
 enum-known-m c = search needs
 
--- src/groups_row.rt:91:17
 text-start-requires : tie.Need-text-start-requires
 text-start-requires c κs = search needs
 
--- src/groups_row.rt:92:17
 text-length-requires : tie.Need-text-length-requires
 text-length-requires c κs = search needs
 
--- src/groups_row.rt:93:17
 text-start-requires-2 : tie.Need-text-start-requires-2
 text-start-requires-2 c κs = search needs
 
--- src/groups_row.rt:94:17
 text-length-requires-2 : tie.Need-text-length-requires-2
 text-length-requires-2 c κs = search needs
 
--- src/groups_row.rt:99:30
 slice-aggregate-put-row-3 : tie.Need-slice-aggregate-put-row-3
 slice-aggregate-put-row-3 c = search needs
 
--- src/groups_row.rt:99:13
 put-row-requires-3 : tie.Need-put-row-requires-3
 put-row-requires-3 c κs = search needs
 
--- src/groups_row.rt:101:22
 enum-known-m-2 : tie.Need-enum-known-m-2
 enum-known-m-2 c = search needs
 
--- src/groups_row.rt:109:17
 text-start-requires-3 : tie.Need-text-start-requires-3
 text-start-requires-3 c κs = search needs
 
--- src/groups_row.rt:110:17
 text-length-requires-3 : tie.Need-text-length-requires-3
 text-length-requires-3 c κs = search needs
 
--- src/groups_row.rt:112:30
 slice-aggregate-put-row-4 : tie.Need-slice-aggregate-put-row-4
 slice-aggregate-put-row-4 c = search needs
 
--- src/groups_row.rt:112:13
 put-row-requires-4 : tie.Need-put-row-requires-4
 put-row-requires-4 c κs = search needs
 
--- src/groups_row.rt:80:1
 same-length : tie.Need-same-length
 same-length c = search needs
 
--- src/groups_row.rt:80:1
 returns : tie.Need-returns
 returns c = rw (c .before .before .before .before .enum-told .given .1) (c .before .put-row .ensures)
 
--- src/groups_row.rt:80:1
 same-length-2 : tie.Need-same-length-2
 same-length-2 c = search needs
 
--- src/groups_row.rt:80:1
 returns-2 : tie.Need-returns-2
 returns-2 c = rw (c .before .before .before .before .enum-told2 .given .1) (c .before .put-row2 .ensures)
 
--- src/groups_row.rt:80:1
 same-length-3 : tie.Need-same-length-3
 same-length-3 c = search needs
 
--- src/groups_row.rt:80:1
 returns-3 : tie.Need-returns-3
 returns-3 c =
     let p4 = c .before .before .before .before in
@@ -110,11 +81,9 @@ returns-3 c =
     let p1 = p2 .before in
     rw (c .before .before .before .before .before .before .before .before .before .m .given .1) (as-row _ _ (literal (cell (p1 .text-start .ok) (p1 .text-start .ensures) (cell (p2 .text-length .ok) (p2 .text-length .ensures) (cell (p3 .text-start2 .ok) (p3 .text-start2 .ensures) (cell (p4 .text-length2 .ok) (p4 .text-length2 .ensures) (literal (literal (literal refl)))))))) (c .before .put-row3 .ensures))
 
--- src/groups_row.rt:80:1
 same-length-4 : tie.Need-same-length-4
 same-length-4 c = search needs
 
--- src/groups_row.rt:80:1
 returns-4 : tie.Need-returns-4
 returns-4 c =
     let p2 = c .before .before .before .before in

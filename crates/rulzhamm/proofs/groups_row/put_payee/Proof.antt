@@ -4,66 +4,46 @@ use mathlib.Core.Path.{refl}
 use Rattle.report.proofs.Cells.{as-row, cell, literal}
 use Rattle.rulzhamm.proofs.groups_row.put_payee.Statement.{statement}
 use Rattle.rulzhamm.proofs.groups_row.put_payee.Tie as tie
-use Rattle.rulzhamm.proofs.groups_row.put_payee.Reads as reads
-use Rattle.rulzhamm.proofs.groups_row.put_payee.Lts as lts
-use Rattle.report.proofs.put_row.Reads as put-row-reads
-use Rattle.report.proofs.text_length.Reads as text-length-reads
-use Rattle.report.proofs.text_start.Reads as text-start-reads
-use Rattle.rulzhamm.proofs.groups_row.put_identifier.Reads as put-identifier-reads
 
--- src/groups_row.rt:51:39
 enum-told : tie.Need-enum-told
 enum-told c = search needs
 
--- src/groups_row.rt:51:48
 slice-aggregate-put-row : tie.Need-slice-aggregate-put-row
 slice-aggregate-put-row c = search needs
 
--- src/groups_row.rt:51:31
 put-row-requires : tie.Need-put-row-requires
 put-row-requires c κs = search needs
 
--- src/groups_row.rt:52:24
 enum-known-p : tie.Need-enum-known-p
 enum-known-p c = search needs
 
--- src/groups_row.rt:56:39
 text-start-requires : tie.Need-text-start-requires
 text-start-requires c κs = search needs
 
--- src/groups_row.rt:56:57
 text-length-requires : tie.Need-text-length-requires
 text-length-requires c κs = search needs
 
--- src/groups_row.rt:57:39
 slice-aggregate-put-row-2 : tie.Need-slice-aggregate-put-row-2
 slice-aggregate-put-row-2 c = search needs
 
--- src/groups_row.rt:57:17
 put-row-requires-2 : tie.Need-put-row-requires-2
 put-row-requires-2 c κs = search needs
 
--- src/groups_row.rt:58:17
 put-identifier-requires : tie.Need-put-identifier-requires
 put-identifier-requires c κs = search needs
 
--- src/groups_row.rt:59:13
 put-identifier-requires-2 : tie.Need-put-identifier-requires-2
 put-identifier-requires-2 c κs = search needs
 
--- src/groups_row.rt:47:1
 same-length : tie.Need-same-length
 same-length c = search needs
 
--- src/groups_row.rt:47:1
 returns : tie.Need-returns
 returns c = rw (c .before .before .before .before .enum-told .given .1) (c .before .put-row .ensures)
 
--- src/groups_row.rt:47:1
 same-length-2 : tie.Need-same-length-2
 same-length-2 c = search needs
 
--- src/groups_row.rt:47:1
 returns-2 : tie.Need-returns-2
 returns-2 c =
     let p2 = c .before .before .before .before .before .before .before .before .before .before in

@@ -3,90 +3,64 @@ use mathlib.Core.Path.{refl}
 use Rattle.report.proofs.Cells.{as-row, cell}
 use Rattle.rulzhamm.proofs.groups_row.put_totals.Statement.{statement}
 use Rattle.rulzhamm.proofs.groups_row.put_totals.Tie as tie
-use Rattle.rulzhamm.proofs.groups_row.put_totals.Reads as reads
-use Rattle.rulzhamm.proofs.groups_row.put_totals.Lts as lts
-use Rattle.amount.proofs.amount.InvoiceAmount.to_minor_units.Reads as to-minor-units-reads
-use Rattle.report.proofs.put_row.Reads as put-row-reads
-use Rattle.report.proofs.amount_hundredths.Reads as amount-hundredths-reads
-use Rattle.report.proofs.amount_present.Reads as amount-present-reads
 
--- src/groups_row.rt:133:9
 to-minor-units-requires : tie.Need-to-minor-units-requires
 to-minor-units-requires c κs = search needs
 
--- src/groups_row.rt:134:9
 amount-present-requires : tie.Need-amount-present-requires
 amount-present-requires c κs = search needs
 
--- src/groups_row.rt:135:9
 amount-hundredths-requires : tie.Need-amount-hundredths-requires
 amount-hundredths-requires c κs = search needs
 
--- src/groups_row.rt:136:9
 amount-present-requires-2 : tie.Need-amount-present-requires-2
 amount-present-requires-2 c κs = search needs
 
--- src/groups_row.rt:137:9
 amount-hundredths-requires-2 : tie.Need-amount-hundredths-requires-2
 amount-hundredths-requires-2 c κs = search needs
 
--- src/groups_row.rt:138:9
 to-minor-units-requires-2 : tie.Need-to-minor-units-requires-2
 to-minor-units-requires-2 c κs = search needs
 
--- src/groups_row.rt:139:9
 amount-present-requires-3 : tie.Need-amount-present-requires-3
 amount-present-requires-3 c κs = search needs
 
--- src/groups_row.rt:140:9
 amount-hundredths-requires-3 : tie.Need-amount-hundredths-requires-3
 amount-hundredths-requires-3 c κs = search needs
 
--- src/groups_row.rt:141:9
 amount-present-requires-4 : tie.Need-amount-present-requires-4
 amount-present-requires-4 c κs = search needs
 
--- src/groups_row.rt:142:9
 amount-hundredths-requires-4 : tie.Need-amount-hundredths-requires-4
 amount-hundredths-requires-4 c κs = search needs
 
--- src/groups_row.rt:143:9
 to-minor-units-requires-3 : tie.Need-to-minor-units-requires-3
 to-minor-units-requires-3 c κs = search needs
 
--- src/groups_row.rt:144:9
 amount-present-requires-5 : tie.Need-amount-present-requires-5
 amount-present-requires-5 c κs = search needs
 
--- src/groups_row.rt:145:9
 amount-hundredths-requires-5 : tie.Need-amount-hundredths-requires-5
 amount-hundredths-requires-5 c κs = search needs
 
--- src/groups_row.rt:146:9
 amount-present-requires-6 : tie.Need-amount-present-requires-6
 amount-present-requires-6 c κs = search needs
 
--- src/groups_row.rt:147:9
 amount-hundredths-requires-6 : tie.Need-amount-hundredths-requires-6
 amount-hundredths-requires-6 c κs = search needs
 
--- src/groups_row.rt:148:9
 to-minor-units-requires-4 : tie.Need-to-minor-units-requires-4
 to-minor-units-requires-4 c κs = search needs
 
--- src/groups_row.rt:150:22
 slice-aggregate-put-row : tie.Need-slice-aggregate-put-row
 slice-aggregate-put-row c = search needs
 
--- src/groups_row.rt:150:5
 put-row-requires : tie.Need-put-row-requires
 put-row-requires c κs = search needs
 
--- src/groups_row.rt:118:1
 same-length : tie.Need-same-length
 same-length c = search needs
 
--- src/groups_row.rt:118:1
 returns : tie.Need-returns
 returns c =
     let p16 = c .before .before .before .before in

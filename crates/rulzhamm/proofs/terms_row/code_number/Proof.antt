@@ -2,31 +2,22 @@ use borrow.Author.Needs.{needs}
 use Rattle.report.proofs.Cells.{carried}
 use Rattle.rulzhamm.proofs.terms_row.code_number.Statement.{statement}
 use Rattle.rulzhamm.proofs.terms_row.code_number.Tie as tie
-use Rattle.rulzhamm.proofs.terms_row.code_number.Reads as reads
-use Rattle.rulzhamm.proofs.terms_row.code_number.Lts as lts
-use Rattle.rulzhamm.proofs.terms_row.signed.Reads as signed-reads
 
--- src/terms_row.rt:39:30
 enum-told : tie.Need-enum-told
 enum-told c = search needs
 
--- src/terms_row.rt:40:23
 enum-known-c : tie.Need-enum-known-c
 enum-known-c c = search needs
 
--- src/terms_row.rt:40:36
 cast-signed : tie.Need-cast-signed
 cast-signed c = search needs
 
--- src/terms_row.rt:40:29
 signed-requires : tie.Need-signed-requires
 signed-requires c κs = search needs
 
--- src/terms_row.rt:35:1
 returns : tie.Need-returns
 returns c = simp (c .enum-told .given .1)
 
--- src/terms_row.rt:35:1
 returns-2 : tie.Need-returns-2
 returns-2 c = rw (c .before .before .c .given .1) (carried (c .signed .ok) (c .signed .ensures))
 

@@ -1,14 +1,10 @@
 use borrow.Author.Needs.{needs}
 use Rattle.rulzhamm.proofs.terms_row.flag_number.Statement.{statement}
 use Rattle.rulzhamm.proofs.terms_row.flag_number.Tie as tie
-use Rattle.rulzhamm.proofs.terms_row.flag_number.Reads as reads
-use Rattle.rulzhamm.proofs.terms_row.flag_number.Lts as lts
 
--- src/terms_row.rt:45:1
 returns : tie.Need-returns
 returns c = simp (c .if1 .taken)
 
--- src/terms_row.rt:45:1
 returns-2 : tie.Need-returns-2
 returns-2 c = simp (c .if1 .left)
 

@@ -3,54 +3,37 @@ use mathlib.Core.Path.{refl}
 use Rattle.report.proofs.Cells.{as-row, cell}
 use Rattle.rulzhamm.proofs.terms_row.put_payment.Statement.{statement}
 use Rattle.rulzhamm.proofs.terms_row.put_payment.Tie as tie
-use Rattle.rulzhamm.proofs.terms_row.put_payment.Reads as reads
-use Rattle.rulzhamm.proofs.terms_row.put_payment.Lts as lts
-use Rattle.report.proofs.put_row.Reads as put-row-reads
-use Rattle.report.proofs.text_length.Reads as text-length-reads
-use Rattle.report.proofs.text_start.Reads as text-start-reads
-use Rattle.rulzhamm.proofs.terms_row.flag_number.Reads as flag-number-reads
 
--- src/terms_row.rt:94:9
 flag-number-requires : tie.Need-flag-number-requires
 flag-number-requires c κs = search needs
 
--- src/terms_row.rt:95:9
 text-start-requires : tie.Need-text-start-requires
 text-start-requires c κs = search needs
 
--- src/terms_row.rt:96:9
 text-length-requires : tie.Need-text-length-requires
 text-length-requires c κs = search needs
 
--- src/terms_row.rt:97:9
 text-start-requires-2 : tie.Need-text-start-requires-2
 text-start-requires-2 c κs = search needs
 
--- src/terms_row.rt:98:9
 text-length-requires-2 : tie.Need-text-length-requires-2
 text-length-requires-2 c κs = search needs
 
--- src/terms_row.rt:99:9
 text-start-requires-3 : tie.Need-text-start-requires-3
 text-start-requires-3 c κs = search needs
 
--- src/terms_row.rt:100:9
 text-length-requires-3 : tie.Need-text-length-requires-3
 text-length-requires-3 c κs = search needs
 
--- src/terms_row.rt:102:22
 slice-aggregate-put-row : tie.Need-slice-aggregate-put-row
 slice-aggregate-put-row c = search needs
 
--- src/terms_row.rt:102:5
 put-row-requires : tie.Need-put-row-requires
 put-row-requires c κs = search needs
 
--- src/terms_row.rt:87:1
 same-length : tie.Need-same-length
 same-length c = search needs
 
--- src/terms_row.rt:87:1
 returns : tie.Need-returns
 returns c =
     let p7 = c .before .before .before .before in

@@ -3,71 +3,49 @@ use mathlib.Core.Path.{refl}
 use Rattle.report.proofs.Cells.{as-row, cell}
 use Rattle.rulzhamm.proofs.terms_row.put_plain.Statement.{statement}
 use Rattle.rulzhamm.proofs.terms_row.put_plain.Tie as tie
-use Rattle.rulzhamm.proofs.terms_row.put_plain.Reads as reads
-use Rattle.rulzhamm.proofs.terms_row.put_plain.Lts as lts
-use Rattle.report.proofs.put_row.Reads as put-row-reads
-use Rattle.report.proofs.day_number.Reads as day-number-reads
-use Rattle.report.proofs.text_length.Reads as text-length-reads
-use Rattle.report.proofs.text_start.Reads as text-start-reads
-use Rattle.rulzhamm.proofs.terms_row.code_number.Reads as code-number-reads
 
--- src/terms_row.rt:71:9
 text-start-requires : tie.Need-text-start-requires
 text-start-requires c κs = search needs
 
--- src/terms_row.rt:72:9
 text-length-requires : tie.Need-text-length-requires
 text-length-requires c κs = search needs
 
--- src/terms_row.rt:73:9
 text-start-requires-2 : tie.Need-text-start-requires-2
 text-start-requires-2 c κs = search needs
 
--- src/terms_row.rt:74:9
 text-length-requires-2 : tie.Need-text-length-requires-2
 text-length-requires-2 c κs = search needs
 
--- src/terms_row.rt:75:9
 day-number-requires : tie.Need-day-number-requires
 day-number-requires c κs = search needs
 
--- src/terms_row.rt:76:9
 code-number-requires : tie.Need-code-number-requires
 code-number-requires c κs = search needs
 
--- src/terms_row.rt:77:9
 day-number-requires-2 : tie.Need-day-number-requires-2
 day-number-requires-2 c κs = search needs
 
--- src/terms_row.rt:78:9
 text-start-requires-3 : tie.Need-text-start-requires-3
 text-start-requires-3 c κs = search needs
 
--- src/terms_row.rt:79:9
 text-length-requires-3 : tie.Need-text-length-requires-3
 text-length-requires-3 c κs = search needs
 
--- src/terms_row.rt:80:9
 text-start-requires-4 : tie.Need-text-start-requires-4
 text-start-requires-4 c κs = search needs
 
--- src/terms_row.rt:81:9
 text-length-requires-4 : tie.Need-text-length-requires-4
 text-length-requires-4 c κs = search needs
 
--- src/terms_row.rt:83:22
 slice-aggregate-put-row : tie.Need-slice-aggregate-put-row
 slice-aggregate-put-row c = search needs
 
--- src/terms_row.rt:83:5
 put-row-requires : tie.Need-put-row-requires
 put-row-requires c κs = search needs
 
--- src/terms_row.rt:60:1
 same-length : tie.Need-same-length
 same-length c = search needs
 
--- src/terms_row.rt:60:1
 returns : tie.Need-returns
 returns c =
     let p11 = c .before .before .before .before in

@@ -3,14 +3,10 @@ use mir.Facts.{toZ-pos}
 use mir.Syntax.{w64}
 use Rattle.rulzhamm.proofs.terms_row.signed.Statement.{statement}
 use Rattle.rulzhamm.proofs.terms_row.signed.Tie as tie
-use Rattle.rulzhamm.proofs.terms_row.signed.Reads as reads
-use Rattle.rulzhamm.proofs.terms_row.signed.Lts as lts
 
--- src/terms_row.rt:31:5
 cast-result : tie.Need-cast-result
 cast-result c = search needs
 
--- src/terms_row.rt:27:1
 returns : tie.Need-returns
 returns c = toZ-pos w64 (c .pre)
 
