@@ -38,20 +38,22 @@ static void expect_text(const char *what, const int64_t *place, const char *want
     }
 }
 
-int main(void) {
-    int64_t held[RULZHAMM_HELD_ROOM(RECORDS)];
-    int64_t entries[RULZHAMM_ENTRY_ROOM(RECORDS)];
-    int64_t unmapped[RULZHAMM_UNMAPPED_ROOM(RECORDS)];
-    int64_t answer[RULZHAMM_ANSWER];
-    const uint8_t *text = (const uint8_t *)TEXT;
-    size_t text_len = sizeof TEXT - 1;
-    const uint8_t *eur = (const uint8_t *)"EUR";
-    const uint8_t *none = (const uint8_t *)"";
+static int64_t held[RULZHAMM_HELD_ROOM(RECORDS)];
+static int64_t entries[RULZHAMM_ENTRY_ROOM(RECORDS)];
+static int64_t unmapped[RULZHAMM_UNMAPPED_ROOM(RECORDS)];
+static int64_t answer[RULZHAMM_ANSWER];
 
-    memset(held, 0x55, sizeof held);
-    rulzhamm_read(TABLE, RECORDS * RULZHAMM_RECORD, text, text_len, eur, 3, none, 0, 0, 0,
+/* Reads the table in mode 0, with EUR as the invoice currency and no identifier. */
+static void read_example(uint32_t rules) {
+    rulzhamm_read(TABLE, RECORDS * RULZHAMM_RECORD, (const uint8_t *)TEXT, sizeof TEXT - 1,
+                  (const uint8_t *)"EUR", 3, (const uint8_t *)"", 0, rules, 0,
                   held, RULZHAMM_HELD_ROOM(RECORDS), entries, RULZHAMM_ENTRY_ROOM(RECORDS),
                   unmapped, RULZHAMM_UNMAPPED_ROOM(RECORDS), answer);
+}
+
+int main(void) {
+    memset(held, 0x55, sizeof held);
+    read_example(0);
     expect("refusal", answer[0], 0);
     expect("held rows", answer[2], 1);
     expect("entries", answer[3], 0);
@@ -70,9 +72,7 @@ int main(void) {
 
     /* A rules number above 4,095 is refusal 2, and the lists stay as they are. */
     held[0] = 77;
-    rulzhamm_read(TABLE, RECORDS * RULZHAMM_RECORD, text, text_len, eur, 3, none, 0, 4096, 0,
-                  held, RULZHAMM_HELD_ROOM(RECORDS), entries, RULZHAMM_ENTRY_ROOM(RECORDS),
-                  unmapped, RULZHAMM_UNMAPPED_ROOM(RECORDS), answer);
+    read_example(4096);
     expect("refusal", answer[0], 2);
     expect("held rows of a refusal", answer[2], 0);
     expect("BT-5 of a refusal", answer[5], -1);
