@@ -20,11 +20,11 @@ use Rattle.labels.specs.TermName.{termGroupAt, termNameAt}
 use Rattle.labels.specs.ParentName.{parentNameAt}
 use Rattle.report.specs.Placed.{behind, Placed}
 use Rattle.report.proofs.Placing.{placed-none, placed-then}
-use Rattle.lines.specs.Decimal.{decimal, natural}
-use Rattle.lines.specs.Line.{printable, field}
+use Rattle.decimals.specs.Decimal.{decimal, natural}
+use Rattle.decimals.proofs.Putting.{placed-wrote, placed-as}
+use Rattle.decimals.proofs.Signs.{held, below, above}
+use Rattle.fields.specs.Line.{printable, field}
 use Rattle.lines.specs.Labels.{bracketed, groupText, termText, termShown, unmappedPath, nameShown}
-use Rattle.lines.proofs.Putting.{placed-wrote, placed-as}
-use Rattle.lines.proofs.Signs.{held, below, above}
 
 natural-held : {z : ℤ} {k : ℕ} → SFits w64 z → k ≡ natural (held z) → k ≡ natural z
 natural-held f e = e ∙ ap natural (toZ-ofZ f)

@@ -10,8 +10,8 @@ use Rattle.text.specs.Utf8.{bytes}
 use Rattle.text.specs.Span.{clipped}
 use Rattle.labels.specs.TermName.{termGroupAt, termNameAt}
 use Rattle.labels.specs.ParentName.{parentNameAt}
-use Rattle.lines.specs.Decimal.{decimal, natural}
-use Rattle.lines.specs.Line.{printable}
+use Rattle.decimals.specs.Decimal.{decimal, natural}
+use Rattle.fields.specs.Line.{printable}
 
 -- a group's index in brackets, nothing where it has none (-1)
 unfoldable pub bracketed : ℤ → List ℕ

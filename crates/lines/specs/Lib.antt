@@ -1,4 +1,1 @@
-pub mod Decimal
-pub mod Line
-pub mod Columns
 pub mod Labels

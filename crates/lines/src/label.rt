@@ -3,14 +3,14 @@ ghost use mathlib.Core.List.{_∷_};
 ghost use Rattle.labels.specs.PathText.{pathTextAt};
 ghost use Rattle.labels.specs.TermName.{termGroupAt, termNameAt};
 ghost use Rattle.report.specs.Placed.{Placed};
-ghost use Rattle.lines.specs.Decimal as decimal;
-ghost use Rattle.lines.specs.Line.{field};
+ghost use Rattle.decimals.specs.Decimal as decimal;
+ghost use Rattle.fields.specs.Line.{field};
 ghost use Rattle.lines.specs.Labels.{bracketed, groupText, termText, termShown, unmappedPath, nameShown};
-use crate::column::put_printable;
-use crate::list::put_byte;
-use crate::number::natural;
-use crate::number::put_decimal;
-use crate::number::size;
+use decimals::natural;
+use decimals::put_byte;
+use decimals::put_decimal;
+use decimals::size;
+use fields::put_printable;
 
 // Puts a tab and the text of the path that has a number, and answers where the next bytes go.
 pub fn put_path_field(out: &mut [u8], at: usize, number: i64) -> usize

@@ -9,8 +9,8 @@ use lib.Signed.{mag}
 use lib.ListN.{length, length-append, length-map}
 use Rattle.report.proofs.Cells.{carried}
 use Rattle.report.specs.Encoding.{heldWidth, entryWidth, unmappedWidth, cutRows}
-use Rattle.lines.specs.Decimal.{natural}
-use Rattle.lines.proofs.Signs.{held}
+use Rattle.decimals.specs.Decimal.{natural}
+use Rattle.decimals.proofs.Signs.{held}
 use Rattle.printed.specs.Numbers.{cell, there, rowCount, refusedLine, laterLines, rowLines, acceptedLines, linesOf, lineCount}
 
 -- a number of the answer that was read

@@ -11,8 +11,8 @@ use lib.Seq.{getD-append-add, drop-drop}
 use Rattle.report.specs.Encoding.{heldWidth, entryWidth, unmappedWidth, cutRows}
 use Rattle.report.specs.Placed.{Placed}
 use Rattle.report.proofs.Placing.{placed-none}
-use Rattle.lines.specs.Columns.{number}
-use Rattle.lines.proofs.Putting.{placed-as}
+use Rattle.decimals.proofs.Putting.{placed-as}
+use Rattle.fields.specs.Columns.{number}
 use Rattle.printed.specs.Numbers.{cell, there, group, groups, groupNumbers, term, terms, termNumbers, heldNumbers, entryNumbers, unmappedNumbers, rowCount, rowsIn, acceptedLine, refusedLine, laterLines, rowLines, acceptedLines, linesOf}
 use Rattle.printed.proofs.Counting.{cut-length, row-lines-length}
 

@@ -12,9 +12,9 @@ use Rattle.settlement.specs.Tree.{Tree, treeDoc, treeOf}
 use Rattle.settlement.specs.Edges.{leaf, branch, settlement, lent}
 use Rattle.settlement.proofs.AnyOrder.{outcome-read, shown-tree}
 use Rattle.settlement.proofs.Examples.{account-and-foo}
-use Rattle.lines.specs.Decimal.{spelled, decimal, signed}
-use Rattle.lines.specs.Line.{printable, field, tabbed, line}
-use Rattle.lines.specs.Line as line
+use Rattle.decimals.specs.Decimal.{spelled, decimal, signed}
+use Rattle.fields.specs.Line.{printable, field, tabbed, line}
+use Rattle.fields.specs.Line as line
 use Rattle.printed.specs.Printed.{groupLines, termLines, heldLine, entryLine, unmappedLine, readingLines, outcomeLines, printed}
 
 -- what a call that reads prints is the reading of its table's tree

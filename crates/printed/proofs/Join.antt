@@ -21,10 +21,10 @@ use Rattle.settlement.specs.Shown.{mapReading}
 use Rattle.settlement.specs.Outcome.{Room, refused, read, callRefusal, unless, outcome, shown}
 use Rattle.settlement.specs.Result.{resultOf, answerRow}
 use Rattle.settlement.proofs.Results.{numbered, call-numbered}
-use Rattle.lines.specs.Decimal.{signed, natural}
-use Rattle.lines.specs.Line.{field}
-use Rattle.lines.specs.Columns.{fields}
-use Rattle.lines.specs.Columns as columns
+use Rattle.decimals.specs.Decimal.{signed, natural}
+use Rattle.fields.specs.Line.{field}
+use Rattle.fields.specs.Columns.{fields}
+use Rattle.fields.specs.Columns as columns
 use Rattle.printed.specs.Printed.{heldLine, entryLine, unmappedLine, readingLines, outcomeLines, printed}
 use Rattle.printed.specs.Numbers.{rowCount, rowsIn, heldNumbers, entryNumbers, unmappedNumbers, acceptedLine, refusedLine, laterLines, rowLines, acceptedLines, linesOf, exitLines}
 use Rattle.printed.proofs.RowLines.{held-line, entry-line, unmapped-line}

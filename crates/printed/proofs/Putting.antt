@@ -22,12 +22,12 @@ use Rattle.report.proofs.Cells.{carried}
 use Rattle.report.proofs.Placing.{placed-none, placed-then}
 use Rattle.settlement.specs.Document.{maybe}
 use Rattle.settlement.specs.Summation.{isNone}
-use Rattle.lines.specs.Decimal.{decimal, signed, natural}
-use Rattle.lines.specs.Line.{field, tabbed, line}
-use Rattle.lines.specs.Columns.{Column, text, number, amount, percent, date, textShown, amountShown, percentShown, dateShown, shown, columnOf, columnsOf, fields}
+use Rattle.decimals.specs.Decimal.{decimal, signed, natural}
+use Rattle.decimals.proofs.Putting.{placed-as}
+use Rattle.decimals.proofs.Signs.{held}
+use Rattle.fields.specs.Line.{field, tabbed, line}
+use Rattle.fields.specs.Columns.{Column, text, number, amount, percent, date, textShown, amountShown, percentShown, dateShown, shown, columnOf, columnsOf, fields}
 use Rattle.lines.specs.Labels.{termShown, unmappedPath, nameShown}
-use Rattle.lines.proofs.Putting.{placed-as}
-use Rattle.lines.proofs.Signs.{held}
 use Rattle.printed.specs.Numbers.{cell, there, isNatural, isShown, hasScheme, group, groups, groupNumbers, term, terms, termWith, schemeShown, termNumbers, heldColumns, heldNumbers, entryNumbers, unmappedNumbers}
 
 -- a test that was turned round

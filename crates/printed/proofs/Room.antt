@@ -18,10 +18,12 @@ use Rattle.names.proofs.Puts.{put-eq}
 use Rattle.report.specs.Encoding.{heldWidth, entryWidth, unmappedWidth, cutRows}
 use Rattle.report.specs.Placed.{Placed}
 use Rattle.report.proofs.Placing.{placed-room}
-use Rattle.lines.specs.Decimal.{natural}
-use Rattle.lines.specs.Line.{field, tabbed, line}
-use Rattle.lines.specs.Columns.{Column, text, number, amount, percent, date, textShown, shown, fields}
-use Rattle.lines.proofs.Room.{decimal-length, signed-length, columnRoom, columnsRoom, field-length, fields-length, path-length, term-length, unmapped-length}
+use Rattle.decimals.specs.Decimal.{natural}
+use Rattle.decimals.proofs.Room.{decimal-length, signed-length}
+use Rattle.fields.specs.Line.{field, tabbed, line}
+use Rattle.fields.specs.Columns.{Column, text, number, amount, percent, date, textShown, shown, fields}
+use Rattle.fields.proofs.Room.{columnRoom, columnsRoom, field-length, fields-length}
+use Rattle.lines.proofs.Room.{path-length, term-length, unmapped-length}
 use Rattle.printed.specs.Printed.{groupLine}
 use Rattle.printed.specs.Numbers.{cell, there, GroupAt, TermAt, groups, terms, hasScheme, groupNumbers, termWith, schemeShown, termNumbers, heldColumns, heldNumbers, entryNumbers, unmappedNumbers, rowCount, rowsIn, acceptedLine, refusedLine, laterLines, rowLines, acceptedLines, linesOf, Wide, lineRoom}
 

@@ -10,9 +10,9 @@ use Rattle.report.specs.Rows.{Place, Entry, Held, transfer, vat, allowance, cha
 use Rattle.report.specs.Encoding.{orAbsent, heldRow, entryRow, unmappedRow}
 use Rattle.settlement.specs.TableDoc.{shows}
 use Rattle.settlement.proofs.Results.{tidy-shows}
-use Rattle.lines.specs.Decimal.{signed, natural}
-use Rattle.lines.specs.Line.{field}
-use Rattle.lines.specs.Columns.{shown, fields}
+use Rattle.decimals.specs.Decimal.{signed, natural}
+use Rattle.fields.specs.Line.{field}
+use Rattle.fields.specs.Columns.{shown, fields}
 use Rattle.lines.specs.Labels.{termShown, unmappedPath, nameShown}
 use Rattle.printed.specs.Printed.{heldLine, termField, entryLine, unmappedLine}
 use Rattle.printed.specs.Numbers.{heldColumns, heldNumbers, entryNumbers, unmappedNumbers}

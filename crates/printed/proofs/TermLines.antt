@@ -14,9 +14,9 @@ use Rattle.settlement.specs.Summation.{isNone}
 use Rattle.settlement.specs.TableDoc.{shows}
 use Rattle.settlement.specs.Shown.{mapIdentifier, mapPayee, mapMeans, mapTerms}
 use Rattle.settlement.specs.Result.{flag, identifierCells, payeeCells, periodCells, meansCells, totalsCells, termsRow}
-use Rattle.lines.specs.Decimal.{decimal, natural}
-use Rattle.lines.specs.Line.{printable, line}
-use Rattle.lines.specs.Columns.{textShown, amountShown, dateShown, shown}
+use Rattle.decimals.specs.Decimal.{decimal, natural}
+use Rattle.fields.specs.Line.{printable, line}
+use Rattle.fields.specs.Columns.{textShown, amountShown, dateShown, shown}
 use Rattle.printed.specs.Printed.{groupLine, termLine, identifierLine, textLine, numberLine, amountLine, isCard, isDebit, cardNumber, cardHolder, debitedAccount, groupLines, termLines}
 use Rattle.printed.specs.Numbers.{there, hasScheme, groups, terms, groupNumbers, termWith, schemeShown, termNumbers}
 use Rattle.printed.proofs.Values.{text-shown, amount-shown, date-shown}

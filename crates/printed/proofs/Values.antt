@@ -8,9 +8,9 @@ use Rattle.report.specs.Rows.{Place}
 use Rattle.report.specs.Encoding.{placeStart, placeLength, textStart, textLength, unscaled, scale, present, hundredths, orAbsent}
 use Rattle.settlement.specs.TableDoc.{shows}
 use Rattle.settlement.proofs.Results.{tidy-shows}
-use Rattle.lines.specs.Decimal.{decimal, signed, natural}
-use Rattle.lines.specs.Line.{printable, percentage}
-use Rattle.lines.specs.Columns.{textShown, percentShown, amountShown, dateShown}
+use Rattle.decimals.specs.Decimal.{decimal, signed, natural}
+use Rattle.fields.specs.Line.{printable, percentage}
+use Rattle.fields.specs.Columns.{textShown, percentShown, amountShown, dateShown}
 
 module _ (x : List ℕ) where
   pub place-shown : (p : Place) → textShown x (placeStart p) (placeLength p) ≡ some (printable (shows x p))

@@ -13,9 +13,9 @@ use Rattle.report.specs.Encoding.{heldWidth, entryWidth, unmappedWidth, rowsThe
 use Rattle.settlement.specs.Document.{maybe}
 use Rattle.settlement.specs.Outcome.{Outcome}
 use Rattle.settlement.specs.Result.{resultOf, answerRow}
-use Rattle.lines.specs.Decimal.{decimal, signed, natural}
-use Rattle.lines.specs.Line.{field, line}
-use Rattle.lines.specs.Columns.{Column, text, number, amount, percent, date, textShown, shown, fields}
+use Rattle.decimals.specs.Decimal.{decimal, signed, natural}
+use Rattle.fields.specs.Line.{field, line}
+use Rattle.fields.specs.Columns.{Column, text, number, amount, percent, date, textShown, shown, fields}
 use Rattle.lines.specs.Labels.{termShown, unmappedPath, nameShown}
 use Rattle.printed.specs.Printed.{groupLine}
 

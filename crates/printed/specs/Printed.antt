@@ -19,8 +19,8 @@ use Rattle.settlement.specs.Document.{maybe}
 use Rattle.settlement.specs.Shapes.{Identifier, Means, unset, card, debit, transfers, Terms, Reading}
 use Rattle.settlement.specs.Summation.{isNone}
 use Rattle.settlement.specs.Outcome.{Outcome, refused, read, shown}
-use Rattle.lines.specs.Decimal.{decimal, signed}
-use Rattle.lines.specs.Line.{printable, field, percentage, line}
+use Rattle.decimals.specs.Decimal.{decimal, signed}
+use Rattle.fields.specs.Line.{printable, field, percentage, line}
 use Rattle.lines.specs.Labels.{termText}
 
 -- a text, "bytes below 32 print as a space"

@@ -2,7 +2,7 @@
 ghost use mathlib.Core.Path.{_≡_};
 ghost use Prim.Native.Nat.{min};
 ghost use Rattle.report.specs.Encoding.{heldWidth, entryWidth, unmappedWidth};
-ghost use Rattle.lines.specs.Decimal.{natural};
+ghost use Rattle.decimals.specs.Decimal.{natural};
 ghost use Rattle.printed.specs.Numbers.{cell, there, rowCount, lineCount};
 
 // The lesser of two counts.
@@ -19,7 +19,7 @@ fn fewer(a: usize, b: usize) -> usize
 pub(crate) fn count_at(row: &[i64], i: usize) -> usize
     ensures { λ r. ⌜ r ≡ natural (cell (now (row .entry)) i) ⌝ }
 {
-    lines::natural(lines::number_at(row, i))
+    decimals::natural(fields::number_at(row, i))
 }
 
 // Whether the call was refused.

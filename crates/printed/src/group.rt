@@ -5,7 +5,7 @@ ghost use Rattle.printed.specs.Numbers.{group, groups, groupNumbers};
 use crate::count::count_at;
 use crate::table::byte_at;
 use crate::table::wide;
-use lines::put_bytes;
+use decimals::put_bytes;
 
 // BG-10, BG-14, BG-16, BG-18 (card), BG-19 (direct debit), and where the answer says whether they are
 // present.
@@ -22,7 +22,7 @@ fn put_group_at(out: &mut [u8], answer: &[i64], number: u8, place: u8) -> usize
         return 0;
     }
     let next = put_bytes(out, 0, b"group\tBG-");
-    let end = lines::put_decimal(out, next, number as u64);
+    let end = decimals::put_decimal(out, next, number as u64);
     put_bytes(out, end, b"\n")
 }
 

@@ -5,15 +5,15 @@ ghost use lib.ListN.{drop};
 ghost use Rattle.text.specs.Utf8.{bytes};
 ghost use Rattle.labels.specs.PathText.{pathTextAt};
 ghost use Rattle.report.specs.Placed.{Placed};
-ghost use Rattle.lines.specs.Decimal.{signed, natural};
-ghost use Rattle.lines.specs.Line.{field, tabbed};
-ghost use Rattle.lines.specs.Columns.{columnsOf, fields};
+ghost use Rattle.decimals.specs.Decimal.{signed, natural};
+ghost use Rattle.fields.specs.Line.{field, tabbed};
+ghost use Rattle.fields.specs.Columns.{columnsOf, fields};
 ghost use Rattle.lines.specs.Labels.{termShown, unmappedPath, nameShown};
 ghost use Rattle.printed.specs.Numbers.{cell, acceptedLine, refusedLine, heldNumbers, entryNumbers, unmappedNumbers};
 use crate::count::count_at;
-use lines::number_at;
-use lines::put_bytes;
-use lines::put_fields;
+use decimals::put_bytes;
+use fields::number_at;
+use fields::put_fields;
 
 // Puts a word, the fields of a row's numbers from a place on, a column's letter for each, and a line
 // feed. Like every function here it puts them at the front, and answers where the line ends.

@@ -6,16 +6,16 @@ ghost use lib.ListN.{getD};
 ghost use Rattle.settlement.specs.Document.{maybe};
 ghost use Rattle.report.specs.Placed.{Placed};
 ghost use Rattle.text.specs.Utf8.{bytes};
-ghost use Rattle.lines.specs.Decimal.{decimal};
-ghost use Rattle.lines.specs.Line.{tabbed};
-ghost use Rattle.lines.specs.Columns as column;
-ghost use Rattle.lines.specs.Columns.{number, columnOf};
+ghost use Rattle.decimals.specs.Decimal.{decimal};
+ghost use Rattle.fields.specs.Line.{tabbed};
+ghost use Rattle.fields.specs.Columns as column;
+ghost use Rattle.fields.specs.Columns.{number, columnOf};
 ghost use Rattle.printed.specs.Numbers.{cell, there, term, terms, isNatural, isShown, hasScheme, schemeShown, termNumbers};
 use crate::table::byte_at;
 use crate::table::wide;
-use lines::number_at;
-use lines::put_bytes;
-use lines::put_fields;
+use decimals::put_bytes;
+use fields::number_at;
+use fields::put_fields;
 
 // The terms' numbers, the letters of their columns, and their places in the answer.
 const NUMBERS: [u8; 30] = [
@@ -109,7 +109,7 @@ fn is_text(start: i64, length: i64) -> bool
 fn is_amount(present: i64) -> bool
     ensures { λ r. ⌜ r ≡ there present ⌝ }
 {
-    let absent = lines::natural(present) == 0;
+    let absent = decimals::natural(present) == 0;
     !absent
 }
 
@@ -174,7 +174,7 @@ fn put_term_number(out: &mut [u8], number: u8) -> usize
     ensures { λ r. ⌜ Placed (now (out .entry)) 0 (bytes "term" ++ 0x9 ∷ bytes "BT-" ++ decimal number) (now (out .exit)) r ⌝ }
 {
     let digits = put_bytes(out, 0, b"term\tBT-");
-    lines::put_decimal(out, digits, number as u64)
+    decimals::put_decimal(out, digits, number as u64)
 }
 
 // Puts the line of a term, nothing where it is absent, at the front, and answers where it ends.

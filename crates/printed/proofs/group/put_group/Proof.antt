@@ -1,7 +1,7 @@
 use mathlib.Core.Path.{ap}
 use borrow.Author.Needs.{needs}
 use Rattle.printed.specs.Numbers.{groupNumbers}
-use Rattle.lines.proofs.Putting.{placed-as}
+use Rattle.decimals.proofs.Putting.{placed-as}
 use Rattle.printed.proofs.Putting.{group-known}
 use Rattle.printed.proofs.group.put_group.Statement.{statement}
 use Rattle.printed.proofs.group.put_group.Tie as tie

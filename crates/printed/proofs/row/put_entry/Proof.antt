@@ -1,5 +1,5 @@
 use borrow.Author.Needs.{needs}
-use Rattle.lines.specs.Columns.{columnOf, columnsOf}
+use Rattle.fields.specs.Columns.{columnOf, columnsOf}
 use Rattle.printed.proofs.Putting.{entry-put}
 use Rattle.printed.proofs.row.put_entry.Statement.{statement}
 use Rattle.printed.proofs.row.put_entry.Tie as tie

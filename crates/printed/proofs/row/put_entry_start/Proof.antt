@@ -1,6 +1,6 @@
 use borrow.Author.Needs.{needs}
 use Rattle.text.specs.Utf8.{bytes, encode}
-use Rattle.lines.specs.Columns.{columnOf, columnsOf}
+use Rattle.fields.specs.Columns.{columnOf, columnsOf}
 use Rattle.printed.proofs.Putting.{start-put}
 use Rattle.printed.proofs.row.put_entry_start.Statement.{statement}
 use Rattle.printed.proofs.row.put_entry_start.Tie as tie

@@ -1,8 +1,8 @@
 use mathlib.Core.Path.{ap}
 use borrow.Author.Needs.{needs}
 use Rattle.text.specs.Utf8.{bytes, encode}
-use Rattle.lines.specs.Line.{line}
-use Rattle.lines.specs.Columns.{columnOf, columnsOf}
+use Rattle.fields.specs.Line.{line}
+use Rattle.fields.specs.Columns.{columnOf, columnsOf}
 use Rattle.printed.specs.Numbers.{heldColumns}
 use Rattle.printed.proofs.Putting.{held-put, kind-other}
 use Rattle.printed.proofs.row.put_held.Statement.{statement}

@@ -1,7 +1,7 @@
 use borrow.Author.Needs.{needs}
 use Rattle.text.specs.Utf8.{bytes, encode}
-use Rattle.lines.specs.Line.{line}
-use Rattle.lines.specs.Columns.{columnOf, columnsOf}
+use Rattle.fields.specs.Line.{line}
+use Rattle.fields.specs.Columns.{columnOf, columnsOf}
 use Rattle.printed.specs.Numbers.{refusedLine}
 use Rattle.printed.proofs.row.put_refused.Statement.{statement}
 use Rattle.printed.proofs.row.put_refused.Tie as tie

@@ -1,7 +1,7 @@
 use mathlib.Core.Path.{refl, ap}
 use borrow.Author.Needs.{needs}
-use Rattle.lines.specs.Columns.{columnOf}
-use Rattle.lines.proofs.Showing.{letter-other}
+use Rattle.fields.specs.Columns.{columnOf}
+use Rattle.fields.proofs.Showing.{letter-other}
 use Rattle.printed.specs.Numbers.{isShown}
 use Rattle.printed.proofs.Putting.{letter-is}
 use Rattle.printed.proofs.term.is_shown.Statement.{statement}

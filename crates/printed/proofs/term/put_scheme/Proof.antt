@@ -1,5 +1,5 @@
 use borrow.Author.Needs.{needs}
-use Rattle.lines.specs.Columns.{columnOf, columnsOf}
+use Rattle.fields.specs.Columns.{columnOf, columnsOf}
 use Rattle.printed.proofs.Putting.{not-true, not-false, scheme-not, scheme-absent, scheme-put}
 use Rattle.printed.proofs.term.put_scheme.Statement.{statement}
 use Rattle.printed.proofs.term.put_scheme.Tie as tie

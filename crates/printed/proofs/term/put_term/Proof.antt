@@ -1,8 +1,8 @@
 use mathlib.Core.Path.{refl, ap}
 use borrow.Author.Needs.{needs}
 use Rattle.text.specs.Utf8.{bytes, encode}
-use Rattle.lines.specs.Columns.{columnOf, columnsOf}
-use Rattle.lines.proofs.Putting.{placed-as}
+use Rattle.decimals.proofs.Putting.{placed-as}
+use Rattle.fields.specs.Columns.{columnOf, columnsOf}
 use Rattle.printed.specs.Numbers.{termNumbers}
 use Rattle.printed.proofs.Putting.{term-known}
 use Rattle.printed.proofs.term.put_term.Statement.{statement}

@@ -1,5 +1,5 @@
 use borrow.Author.Needs.{needs}
-use Rattle.lines.specs.Columns.{columnsOf}
+use Rattle.fields.specs.Columns.{columnsOf}
 use Rattle.printed.proofs.Putting.{not-true, not-false, term-absent, term-line-put}
 use Rattle.printed.proofs.term.put_term_at.Statement.{statement}
 use Rattle.printed.proofs.term.put_term_at.Tie as tie

@@ -1,0 +1,4 @@
+pub mod Parts
+pub mod Showing
+pub mod Rows
+pub mod Room
