@@ -3,7 +3,7 @@ ghost use mathlib.Core.Path.{_≡_};
 ghost use mathlib.Core.List.{[], _∷_};
 ghost use Prim.Native.Nat.{_/_, _%_, _≤_};
 ghost use lib.ListN.{length, take, drop};
-ghost use lib.IntN.{pos, natAbs};
+ghost use lib.IntN.{pos};
 ghost use Rattle.text.specs.Order.{equal, order, ordering};
 ghost use Rattle.text.specs.Span.{partOf};
 ghost use Rattle.characters.specs.Trim.{trimmed};
@@ -97,16 +97,6 @@ pub(crate) fn same_numbers(a: Numbers, b: Numbers) -> bool
         }
     }
     false
-}
-
-// The size of a signed number. That of the least one is no signed number, so it is made in steps.
-pub(crate) fn size_of(z: i64) -> u64
-    ensures { λ r. ⌜ r ≡ natAbs z ⌝ }
-{
-    if z < 0 {
-        return (-1 - z) as u64 + 1;
-    }
-    z as u64
 }
 
 fn wide(n: u32) -> i64

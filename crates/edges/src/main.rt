@@ -15,7 +15,6 @@ mod leaves;
 use crate::answers::Numbers;
 use crate::answers::answer_at;
 use crate::answers::same_numbers;
-use crate::answers::size_of;
 use crate::leaves::Leaf;
 use crate::leaves::NamedLeaf;
 use crate::leaves::leaf_of;
@@ -35,7 +34,7 @@ fn print_signed(z: i64) {
     if z < 0 {
         print(b"-");
     }
-    io::print_decimal(STDOUT, size_of(z));
+    io::print_decimal(STDOUT, decimals::size(z));
 }
 
 // The numbers of an answer, parted by a separator, and a question mark where there are none.
