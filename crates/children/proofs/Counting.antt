@@ -1,4 +1,5 @@
 -- Each child makes at most one row of each group more.
+use mathlib.Core.Path.{_≡_, ap}
 use mathlib.Core.Bool.{Bool, true, false, cond}
 use Prim.Native.Nat.{ℕ, _+_, _≤_}
 use native.Mathlib.Omega.{arith}
@@ -11,7 +12,10 @@ use Rattle.settlement.specs.Settlement.{own, precedingOf}
 use Rattle.settlement.specs.Tax.{isCharge, counted, tradeTaxOf, allowanceOrCharge, logistics, logisticsRead, logisticsLeft}
 use Rattle.settlement.specs.Values.{Lent}
 use Rattle.children.specs.Counts.{Counted}
+use Rattle.children.specs.States.{stateOf}
 use Rattle.children.specs.Steps.{actBy, stepBy}
+use Rattle.children.specs.declared.state.State as Code
+use Rattle.children.specs.declared.state.Tally.{Tally}
 
 -- so many more allowances and charges
 pub record OneMore (s r : Counts) : Type 0 where
@@ -47,16 +51,16 @@ module _ (L : Lent) (D : Doc ℕ Place) (c : ℕ) where
       go false = omega arith
 
   -- one child more
-  pub counted-more : (k : Kind) (s : State Place) {n : ℕ} → Counted s n → Counted (stepBy L D k s c) (n + 1)
+  pub counted-more : (k : Kind) (s r : Code.State) {n : ℕ} → stateOf r ≡ stepBy L D k (stateOf s) c → Counted (s .tally) n → Counted (r .tally) (n + 1)
   unfolding own tradeTaxOf precedingOf
-  counted-more k s p =
+  counted-more k s r e p =
       record {
-        breakdowns = omega (arith, p .breakdowns, lane-count tradeTax (λ (v : VatState Place). v .count) (λ b v cur. omega arith) k s);
-        allowances = omega (arith, p .allowances, lane-count allowanceCharge (λ (v : Counts). v .allowances) (λ b v cur. own-counts b v cur .allowances) k s);
-        charges = omega (arith, p .charges, lane-count allowanceCharge (λ (v : Counts). v .charges) (λ b v cur. own-counts b v cur .charges) k s);
-        invoices = omega (arith, p .invoices, lane-count precedingInvoice (λ (v : ℕ). v) (λ b v cur. omega arith) k s);
+        breakdowns = omega (arith, p .breakdowns, ap (λ (v : State Place). v tradeTax .count) e, lane-count tradeTax (λ (v : VatState Place). v .count) (λ b v cur. omega arith) k (stateOf s));
+        allowances = omega (arith, p .allowances, ap (λ (v : State Place). v allowanceCharge .allowances) e, lane-count allowanceCharge (λ (v : Counts). v .allowances) (λ b v cur. own-counts b v cur .allowances) k (stateOf s));
+        charges = omega (arith, p .charges, ap (λ (v : State Place). v allowanceCharge .charges) e, lane-count allowanceCharge (λ (v : Counts). v .charges) (λ b v cur. own-counts b v cur .charges) k (stateOf s));
+        invoices = omega (arith, p .invoices, ap (λ (v : State Place). v precedingInvoice) e, lane-count precedingInvoice (λ (v : ℕ). v) (λ b v cur. omega arith) k (stateOf s));
       }
 
 -- at most so many are at most more
-pub counted-within : {s : State Place} {m n : ℕ} → Counted s m → m ≤ n → Counted s n
+pub counted-within : {t : Tally} {m n : ℕ} → Counted t m → m ≤ n → Counted t n
 counted-within p h = record { breakdowns = omega (arith, p .breakdowns); allowances = omega (arith, p .allowances); charges = omega (arith, p .charges); invoices = omega (arith, p .invoices) }

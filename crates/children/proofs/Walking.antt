@@ -9,6 +9,7 @@ use Rattle.report.specs.Encoding.{heldRow, rowsOf}
 use Rattle.report.specs.Placed.{Placed}
 use Rattle.report.proofs.RowsOf.{rows-none, rows-then}
 use Rattle.settlement.specs.Document.{Doc}
+use Rattle.settlement.specs.Kinds.{tradeTax, allowanceCharge, precedingInvoice}
 use Rattle.settlement.specs.Shapes.{State}
 use Rattle.settlement.specs.Settlement.{kindOf, act, step, saysOf, holdsOf, straysOf, after}
 use Rattle.settlement.specs.Values.{Lent}
@@ -32,7 +33,7 @@ module _ (L : Lent) (D : Doc ℕ Place) (x : List ℕ) where
   -- no child yet
   pub walked-none : (s : Code.State) (h e u : List ℤ) → Walked L D x [] s s h h e e u u
   unfolding all
-  walked-none s h e u = record { state = refl; held = rows-none heldRow h (s .«held_at»); said = said-none e (s .at); noted = notings-none x u (s .count) }
+  walked-none s h e u = record { state = refl; held = rows-none heldRow h (s .next .«held_at»); said = said-none e (s .next .at); noted = notings-none x u (s .next .count) }
 
   module _ {cs : List ℕ} {c : ℕ} {s w r : Code.State} {h h₁ h₂ e e₁ e₂ u u₁ u₂ : List ℤ} (p : Walked L D x cs s w h h₁ e e₁ u u₁) (q : Stepped (kindOf D c) L D x c w r h₁ h₂ e₁ e₂ u₁ u₂) where
     abbrev before : State Place
@@ -42,15 +43,15 @@ module _ (L : Lent) (D : Doc ℕ Place) (x : List ℕ) where
     unfolding step act stepBy actBy
     stepped-state = q .state ∙ ap (λ (v : State Place). step L D v c) (p .state)
 
-    stepped-held : Placed h₁ (w .«held_at») (rowsOf heldRow (holdsOf L D before c)) h₂ (r .«held_at»)
+    stepped-held : Placed h₁ (w .next .«held_at») (rowsOf heldRow (holdsOf L D before c)) h₂ (r .next .«held_at»)
     unfolding holdsOf act actBy
     stepped-held = rw (p .state) at (q .held)
 
-    stepped-said : Said (saysOf L D before c) e₁ (w .at) e₂ (r .at)
+    stepped-said : Said (saysOf L D before c) e₁ (w .next .at) e₂ (r .next .at)
     unfolding saysOf act actBy
     stepped-said = rw (p .state) at (q .said)
 
-    stepped-noted : Noted (notings x u₁ (w .count) (straysOf L D before c)) u₂ (r .count)
+    stepped-noted : Noted (notings x u₁ (w .next .count) (straysOf L D before c)) u₂ (r .next .count)
     unfolding straysOf act actBy
     stepped-noted = rw (p .state) at (q .noted)
 
@@ -61,7 +62,7 @@ module _ (L : Lent) (D : Doc ℕ Place) (x : List ℕ) where
           state = stepped-state ∙ sym (foldl-append (step L D) (stateOf s) cs (c ∷ []));
           held = rw (all-more (step L D) (holdsOf L D) (stateOf s) cs c) at (rows-then heldRow _ (holdsOf L D before c) (p .held) stepped-held);
           said = rw (all-more (step L D) (saysOf L D) (stateOf s) cs c) at (said-then (p .said) stepped-said);
-          noted = rw (all-more (step L D) (straysOf L D) (stateOf s) cs c) at (notings-then x u (s .count) _ (straysOf L D before c) (p .noted) stepped-noted);
+          noted = rw (all-more (step L D) (straysOf L D) (stateOf s) cs c) at (notings-then x u (s .next .count) _ (straysOf L D before c) (p .noted) stepped-noted);
         }
 
   -- the children are those of another list that is the same
@@ -80,5 +81,11 @@ module _ (L : Lent) (D : Doc ℕ Place) (x : List ℕ) where
       }
 
 -- and nothing is counted yet
-pub fresh-counted : {s : Code.State} → Fresh s → Counted (stateOf s) 0
-fresh-counted f = rw (f .lanes) (record { breakdowns = omega arith; allowances = omega arith; charges = omega arith; invoices = omega arith })
+pub fresh-counted : {s : Code.State} → Fresh s → Counted (s .tally) 0
+fresh-counted f =
+    record {
+      breakdowns = omega (arith, ap (λ (v : State Place). v tradeTax .count) (f .lanes));
+      allowances = omega (arith, ap (λ (v : State Place). v allowanceCharge .allowances) (f .lanes));
+      charges = omega (arith, ap (λ (v : State Place). v allowanceCharge .charges) (f .lanes));
+      invoices = omega (arith, ap (λ (v : State Place). v precedingInvoice) (f .lanes));
+    }

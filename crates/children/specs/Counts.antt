@@ -1,11 +1,10 @@
 -- How many rows of each group there may be so far.
 use Prim.Native.Nat.{ℕ, _≤_}
-use Rattle.settlement.specs.Kinds.{tradeTax, allowanceCharge, precedingInvoice}
-use Rattle.settlement.specs.Shapes.{State}
+use Rattle.children.specs.declared.state.Tally.{Tally}
 
 -- at most n VAT breakdowns, allowances, charges and preceding invoices
-pub record Counted {X : Type 0} (s : State X) (n : ℕ) : Type 0 where
-  pub breakdowns : s tradeTax .count ≤ n
-  pub allowances : s allowanceCharge .allowances ≤ n
-  pub charges : s allowanceCharge .charges ≤ n
-  pub invoices : s precedingInvoice ≤ n
+pub record Counted (t : Tally) (n : ℕ) : Type 0 where
+  pub breakdowns : t .breakdowns ≤ n
+  pub allowances : t .allowances ≤ n
+  pub charges : t .charges ≤ n
+  pub invoices : t .invoices ≤ n

@@ -1,21 +1,40 @@
 -- What the code's kind of a child stands for.
 use Rattle.settlement.specs.Kinds.{Kind, creditorReference, paymentReference, taxCurrency, invoiceCurrency, payee, paymentMeans, tradeTax, period, allowanceCharge, logisticsCharge, paymentTerms, summation, precedingInvoice, accounting, other}
+use Rattle.children.specs.declared.kinds.PlainKind.{PlainKind}
+use Rattle.children.specs.declared.kinds.PlainKind.the-variants.{CreditorReference, PaymentReference, TaxCurrency, InvoiceCurrency, Payee, Accounting}
+use Rattle.children.specs.declared.kinds.RowKind.{RowKind}
+use Rattle.children.specs.declared.kinds.RowKind.the-variants.{TradeTax, AllowanceCharge, LogisticsCharge, PrecedingInvoice}
+use Rattle.children.specs.declared.kinds.BillingKind.{BillingKind}
+use Rattle.children.specs.declared.kinds.BillingKind.the-variants.{Period, PaymentTerms, PaymentMeans}
 use Rattle.children.specs.declared.kinds.Kind as Code
-use Rattle.children.specs.declared.kinds.Kind.the-variants.{CreditorReference, PaymentReference, TaxCurrency, InvoiceCurrency, Payee, PaymentMeans, TradeTax, Period, AllowanceCharge, LogisticsCharge, PaymentTerms, Summation, PrecedingInvoice, Accounting, Other}
+use Rattle.children.specs.declared.kinds.Kind.the-variants.{Plain, Row, Billing, Summation, Other}
 
+-- of a child that gives a term or a group alone
+abbrev pub plainIs : PlainKind → Kind
+plainIs CreditorReference = creditorReference
+plainIs PaymentReference = paymentReference
+plainIs TaxCurrency = taxCurrency
+plainIs InvoiceCurrency = invoiceCurrency
+plainIs Payee = payee
+plainIs Accounting = accounting
+
+-- of a child that makes a row
+abbrev pub rowIs : RowKind → Kind
+rowIs TradeTax = tradeTax
+rowIs AllowanceCharge = allowanceCharge
+rowIs LogisticsCharge = logisticsCharge
+rowIs PrecedingInvoice = precedingInvoice
+
+-- of a child that says when or how is paid
+abbrev pub billingIs : BillingKind → Kind
+billingIs Period = period
+billingIs PaymentTerms = paymentTerms
+billingIs PaymentMeans = paymentMeans
+
+-- of any child
 abbrev pub kindIs : Code.Kind → Kind
-kindIs CreditorReference = creditorReference
-kindIs PaymentReference = paymentReference
-kindIs TaxCurrency = taxCurrency
-kindIs InvoiceCurrency = invoiceCurrency
-kindIs Payee = payee
-kindIs PaymentMeans = paymentMeans
-kindIs TradeTax = tradeTax
-kindIs Period = period
-kindIs AllowanceCharge = allowanceCharge
-kindIs LogisticsCharge = logisticsCharge
-kindIs PaymentTerms = paymentTerms
+kindIs (Plain k) = plainIs k
+kindIs (Row k) = rowIs k
+kindIs (Billing k) = billingIs k
 kindIs Summation = summation
-kindIs PrecedingInvoice = precedingInvoice
-kindIs Accounting = accounting
 kindIs Other = other

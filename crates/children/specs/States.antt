@@ -9,6 +9,10 @@ use Rattle.groups.specs.Groups.{payeeOf, periodOf, paymentTermsOf}
 use Rattle.groups.specs.Taxes.{vatStateOf}
 use Rattle.payment.specs.Walks.{paymentOf}
 use Rattle.totals.specs.Reading.{totalsOf}
+use Rattle.means.specs.declared.Next.{Next}
+use Rattle.children.specs.declared.state.Plain.{Plain}
+use Rattle.children.specs.declared.state.Tally.{Tally}
+use Rattle.children.specs.declared.state.Billing.{Billing}
 use Rattle.children.specs.declared.state.State as Code
 use Rattle.children.specs.declared.state.Reference.{Reference}
 use Rattle.children.specs.declared.state.Reference.the-variants as Reference
@@ -39,27 +43,31 @@ abbrev pub maybeTotalsOf : MaybeTotals → Option Totals
 maybeTotalsOf MaybeTotals.Absent = none
 maybeTotalsOf (MaybeTotals.Of t) = some (totalsOf t)
 
+-- the state of its parts
+abbrev pub state : Plain → Tally → Billing → MaybeTotals → Next → Code.State
+state p t b m n = record { plain = p; tally = t; billing = b; totals = m; next = n }
+
 -- what each lane holds
 abbrev pub stateOf : Code.State → State Place
-stateOf s creditorReference = textOf (s .creditor)
-stateOf s paymentReference = referenceOf (s .reference)
-stateOf s taxCurrency = textOf (s .«tax_currency»)
-stateOf s invoiceCurrency = textOf (s .«invoice_currency»)
-stateOf s payee = maybePayeeOf (s .payee)
-stateOf s paymentMeans = paymentOf (s .payment)
-stateOf s tradeTax = vatStateOf (s .breakdowns) (s .vat)
-stateOf s period = maybePeriodOf (s .period)
-stateOf s allowanceCharge = record { allowances = s .allowances; charges = s .charges }
+stateOf s creditorReference = textOf (s .plain .creditor)
+stateOf s paymentReference = referenceOf (s .plain .reference)
+stateOf s taxCurrency = textOf (s .plain .«tax_currency»)
+stateOf s invoiceCurrency = textOf (s .plain .«invoice_currency»)
+stateOf s payee = maybePayeeOf (s .plain .payee)
+stateOf s paymentMeans = paymentOf (s .billing .payment)
+stateOf s tradeTax = vatStateOf (s .tally .breakdowns) (s .tally .vat)
+stateOf s period = maybePeriodOf (s .billing .period)
+stateOf s allowanceCharge = record { allowances = s .tally .allowances; charges = s .tally .charges }
 stateOf s logisticsCharge = tt
-stateOf s paymentTerms = paymentTermsOf (s .terms)
+stateOf s paymentTerms = paymentTermsOf (s .billing .terms)
 stateOf s summation = maybeTotalsOf (s .totals)
-stateOf s precedingInvoice = s .invoices
-stateOf s accounting = textOf (s .accounting)
+stateOf s precedingInvoice = s .tally .invoices
+stateOf s accounting = textOf (s .plain .accounting)
 stateOf s other = tt
 
 -- before the first child: every lane is blank, and rows go to the front
 pub record Fresh (s : Code.State) : Type 0 where
   pub lanes : stateOf s ≡ blank Place
-  pub held : s .«held_at» ≡ 0
-  pub entries : s .at ≡ 0
-  pub unmapped : s .count ≡ 0
+  pub held : s .next .«held_at» ≡ 0
+  pub entries : s .next .at ≡ 0
+  pub unmapped : s .next .count ≡ 0

@@ -6,22 +6,37 @@ ghost use Rattle.settlement.specs.Settlement.{kindOf};
 ghost use Rattle.element.specs.LinkDoc.{linkDoc};
 ghost use Rattle.children.specs.Kinds.{kindIs};
 
-// What a child is.
-pub(crate) enum Kind {
+// A child that gives a term or a group alone.
+pub(crate) enum PlainKind {
     CreditorReference,
     PaymentReference,
     TaxCurrency,
     InvoiceCurrency,
     Payee,
-    PaymentMeans,
+    Accounting,
+}
+
+// A child that makes a row.
+pub(crate) enum RowKind {
     TradeTax,
-    Period,
     AllowanceCharge,
     LogisticsCharge,
-    PaymentTerms,
-    Summation,
     PrecedingInvoice,
-    Accounting,
+}
+
+// A child that says when or how is paid.
+pub(crate) enum BillingKind {
+    Period,
+    PaymentTerms,
+    PaymentMeans,
+}
+
+// What a child is, by the part of the state that it changes.
+pub(crate) enum Kind {
+    Plain(PlainKind),
+    Row(RowKind),
+    Billing(BillingKind),
+    Summation,
     Other,
 }
 
@@ -30,25 +45,25 @@ fn later_kind(name: &[u8]) -> Kind
     ensures { λ r. ⌜ kindIs r ≡ meant other (drop 7 kinds) (now (name .entry)) ⌝ }
 {
     if text::same(name, b"BillingSpecifiedPeriod") {
-        return Kind::Period;
+        return Kind::Billing(BillingKind::Period);
     }
     if text::same(name, b"SpecifiedTradeAllowanceCharge") {
-        return Kind::AllowanceCharge;
+        return Kind::Row(RowKind::AllowanceCharge);
     }
     if text::same(name, b"SpecifiedLogisticsServiceCharge") {
-        return Kind::LogisticsCharge;
+        return Kind::Row(RowKind::LogisticsCharge);
     }
     if text::same(name, b"SpecifiedTradePaymentTerms") {
-        return Kind::PaymentTerms;
+        return Kind::Billing(BillingKind::PaymentTerms);
     }
     if text::same(name, b"SpecifiedTradeSettlementHeaderMonetarySummation") {
         return Kind::Summation;
     }
     if text::same(name, b"InvoiceReferencedDocument") {
-        return Kind::PrecedingInvoice;
+        return Kind::Row(RowKind::PrecedingInvoice);
     }
     if text::same(name, b"ReceivableSpecifiedTradeAccountingAccount") {
-        return Kind::Accounting;
+        return Kind::Plain(PlainKind::Accounting);
     }
     Kind::Other
 }
@@ -58,25 +73,25 @@ fn kind_named(name: &[u8]) -> Kind
     ensures { λ r. ⌜ kindIs r ≡ kindNamed (now (name .entry)) ⌝ }
 {
     if text::same(name, b"CreditorReferenceID") {
-        return Kind::CreditorReference;
+        return Kind::Plain(PlainKind::CreditorReference);
     }
     if text::same(name, b"PaymentReference") {
-        return Kind::PaymentReference;
+        return Kind::Plain(PlainKind::PaymentReference);
     }
     if text::same(name, b"TaxCurrencyCode") {
-        return Kind::TaxCurrency;
+        return Kind::Plain(PlainKind::TaxCurrency);
     }
     if text::same(name, b"InvoiceCurrencyCode") {
-        return Kind::InvoiceCurrency;
+        return Kind::Plain(PlainKind::InvoiceCurrency);
     }
     if text::same(name, b"PayeeTradeParty") {
-        return Kind::Payee;
+        return Kind::Plain(PlainKind::Payee);
     }
     if text::same(name, b"SpecifiedTradeSettlementPaymentMeans") {
-        return Kind::PaymentMeans;
+        return Kind::Billing(BillingKind::PaymentMeans);
     }
     if text::same(name, b"ApplicableTradeTax") {
-        return Kind::TradeTax;
+        return Kind::Row(RowKind::TradeTax);
     }
     later_kind(name)
 }

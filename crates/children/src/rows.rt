@@ -1,18 +1,30 @@
 // The children that make rows: VAT breakdowns, allowances, charges and preceding invoices.
 ghost use mathlib.Core.List.{List};
-ghost use Prim.Native.Nat.{ℕ};
+ghost use Prim.Native.Nat.{ℕ, _≤_};
 ghost use lib.IntN.{ℤ};
 ghost use Rattle.settlement.specs.Kinds.{tradeTax, allowanceCharge, logisticsCharge, precedingInvoice};
 ghost use Rattle.element.specs.LinkDoc.{linkDoc};
 ghost use Rattle.values.specs.Sites.{lentWith};
 ghost use Rattle.children.specs.Counts.{Counted};
-ghost use Rattle.children.specs.States.{stateOf};
+ghost use Rattle.children.specs.Kinds.{rowIs};
+ghost use Rattle.children.specs.States.{state};
 ghost use Rattle.children.specs.Steps.{Stepped};
-use crate::state::State;
+ghost use Rattle.children.specs.declared.state.Plain.{Plain};
+ghost use Rattle.children.specs.declared.state.Billing.{Billing};
+ghost use Rattle.children.specs.declared.state.MaybeTotals.{MaybeTotals};
+use crate::kinds::RowKind;
+use crate::state::Tally;
 use charges::MaybeCharge;
+use means::Next;
+
+// A tally, and where the next rows go.
+pub(crate) struct Tallied {
+    pub(crate) tally: Tally,
+    pub(crate) next: Next,
+}
 
 // BG-23: the VAT breakdown that element c is.
-pub(crate) fn vat_breakdown(
+fn vat_breakdown(
     table: &[u32],
     text: &[u8],
     links: &[u16],
@@ -21,14 +33,15 @@ pub(crate) fn vat_breakdown(
     currency: &[u8],
     held: &mut [i64],
     entries: &mut [i64],
-    s: State,
+    tally: Tally,
+    next: Next,
     c: usize,
-) -> State
-    requires { ⌜ Counted (stateOf s) 4095 ⌝ }
-    ensures { λ r. ⌜ ((identifier : List ℕ) (u : List ℤ) → Stepped tradeTax (lentWith mode rules (now (currency .entry)) identifier) (linkDoc (now (table .entry)) (now (text .entry)) (now (links .entry))) (now (text .entry)) c s r (now (held .entry)) (now (held .exit)) (now (entries .entry)) (now (entries .exit)) u u) ⌝ }
+) -> Tallied
+    requires { ⌜ tally .breakdowns ≤ 4095 ⌝ }
+    ensures { λ r. ⌜ ((identifier : List ℕ) (p : Plain) (b : Billing) (m : MaybeTotals) (u : List ℤ) → Stepped tradeTax (lentWith mode rules (now (currency .entry)) identifier) (linkDoc (now (table .entry)) (now (text .entry)) (now (links .entry))) (now (text .entry)) c (state p tally b m next) (state p (r .tally) b m (r .next)) (now (held .entry)) (now (held .exit)) (now (entries .entry)) (now (entries .exit)) u u) ⌝ }
 {
-    let index = s.breakdowns;
-    let so_far = s.vat;
+    let index = tally.breakdowns;
+    let so_far = tally.vat;
     let said = groups::vat_breakdown(
         table,
         text,
@@ -37,24 +50,29 @@ pub(crate) fn vat_breakdown(
         rules,
         currency,
         entries,
-        s.at,
+        next.at,
         index,
         so_far,
         c,
     );
     let vat = said.state;
     let row = said.vat;
-    State {
-        vat,
-        breakdowns: index + 1,
-        held_at: report::put_vat(held, s.held_at, row),
-        at: said.at,
-        ..s
+    Tallied {
+        tally: Tally {
+            vat,
+            breakdowns: index + 1,
+            ..tally
+        },
+        next: Next {
+            held_at: report::put_vat(held, next.held_at, row),
+            at: said.at,
+            ..next
+        },
     }
 }
 
 // BG-20 or BG-21: the allowance or charge that element c is.
-pub(crate) fn allowance_charge(
+fn allowance_charge(
     table: &[u32],
     text: &[u8],
     links: &[u16],
@@ -63,14 +81,15 @@ pub(crate) fn allowance_charge(
     currency: &[u8],
     held: &mut [i64],
     entries: &mut [i64],
-    s: State,
+    tally: Tally,
+    next: Next,
     c: usize,
-) -> State
-    requires { ⌜ Counted (stateOf s) 4095 ⌝ }
-    ensures { λ r. ⌜ ((identifier : List ℕ) (u : List ℤ) → Stepped allowanceCharge (lentWith mode rules (now (currency .entry)) identifier) (linkDoc (now (table .entry)) (now (text .entry)) (now (links .entry))) (now (text .entry)) c s r (now (held .entry)) (now (held .exit)) (now (entries .entry)) (now (entries .exit)) u u) ⌝ }
+) -> Tallied
+    requires { ⌜ (tally .allowances ≤ 4095) × (tally .charges ≤ 4095) ⌝ }
+    ensures { λ r. ⌜ ((identifier : List ℕ) (p : Plain) (b : Billing) (m : MaybeTotals) (u : List ℤ) → Stepped allowanceCharge (lentWith mode rules (now (currency .entry)) identifier) (linkDoc (now (table .entry)) (now (text .entry)) (now (links .entry))) (now (text .entry)) c (state p tally b m next) (state p (r .tally) b m (r .next)) (now (held .entry)) (now (held .exit)) (now (entries .entry)) (now (entries .exit)) u u) ⌝ }
 {
-    let a = s.allowances;
-    let b = s.charges;
+    let a = tally.allowances;
+    let b = tally.charges;
     let said = charges::allowance_charge(
         table,
         text,
@@ -79,33 +98,34 @@ pub(crate) fn allowance_charge(
         rules,
         currency,
         entries,
-        s.at,
+        next.at,
         a,
         b,
         c,
     );
     let charge = said.charge;
     let row = said.row;
-    let held_at = charges::put_allowance_or_charge(held, s.held_at, charge, row);
-    let at = said.at;
+    let next = Next {
+        held_at: charges::put_allowance_or_charge(held, next.held_at, charge, row),
+        at: said.at,
+        ..next
+    };
     if charge {
-        return State {
+        let tally = Tally {
             charges: b + 1,
-            held_at,
-            at,
-            ..s
+            ..tally
         };
+        return Tallied { tally, next };
     }
-    State {
+    let tally = Tally {
         allowances: a + 1,
-        held_at,
-        at,
-        ..s
-    }
+        ..tally
+    };
+    Tallied { tally, next }
 }
 
 // BG-21: the charge that a logistics charge is under a conformant extension.
-pub(crate) fn logistics_charge(
+fn logistics_charge(
     table: &[u32],
     text: &[u8],
     links: &[u16],
@@ -115,13 +135,14 @@ pub(crate) fn logistics_charge(
     identifier: &[u8],
     held: &mut [i64],
     entries: &mut [i64],
-    s: State,
+    tally: Tally,
+    next: Next,
     c: usize,
-) -> State
-    requires { ⌜ Counted (stateOf s) 4095 ⌝ }
-    ensures { λ r. ⌜ ((u : List ℤ) → Stepped logisticsCharge (lentWith mode rules (now (currency .entry)) (now (identifier .entry))) (linkDoc (now (table .entry)) (now (text .entry)) (now (links .entry))) (now (text .entry)) c s r (now (held .entry)) (now (held .exit)) (now (entries .entry)) (now (entries .exit)) u u) ⌝ }
+) -> Tallied
+    requires { ⌜ tally .charges ≤ 4095 ⌝ }
+    ensures { λ r. ⌜ ((p : Plain) (b : Billing) (m : MaybeTotals) (u : List ℤ) → Stepped logisticsCharge (lentWith mode rules (now (currency .entry)) (now (identifier .entry))) (linkDoc (now (table .entry)) (now (text .entry)) (now (links .entry))) (now (text .entry)) c (state p tally b m next) (state p (r .tally) b m (r .next)) (now (held .entry)) (now (held .exit)) (now (entries .entry)) (now (entries .exit)) u u) ⌝ }
 {
-    let b = s.charges;
+    let b = tally.charges;
     let said = charges::logistics_charge(
         table,
         text,
@@ -131,25 +152,33 @@ pub(crate) fn logistics_charge(
         currency,
         identifier,
         entries,
-        s.at,
+        next.at,
         b,
         c,
     );
     let charge = said.charge;
     let at = said.at;
     match charge {
-        MaybeCharge::Absent => State { at, ..s },
-        MaybeCharge::Of(row) => State {
-            charges: b + 1,
-            held_at: report::put_charge(held, s.held_at, row),
-            at,
-            ..s
+        MaybeCharge::Absent => Tallied {
+            tally,
+            next: Next { at, ..next },
+        },
+        MaybeCharge::Of(row) => Tallied {
+            tally: Tally {
+                charges: b + 1,
+                ..tally
+            },
+            next: Next {
+                held_at: report::put_charge(held, next.held_at, row),
+                at,
+                ..next
+            },
         },
     }
 }
 
 // BG-3: the preceding invoice that element c is.
-pub(crate) fn preceding_invoice(
+fn preceding_invoice(
     table: &[u32],
     text: &[u8],
     links: &[u16],
@@ -157,19 +186,100 @@ pub(crate) fn preceding_invoice(
     rules: u32,
     held: &mut [i64],
     entries: &mut [i64],
-    s: State,
+    tally: Tally,
+    next: Next,
     c: usize,
-) -> State
-    requires { ⌜ Counted (stateOf s) 4095 ⌝ }
-    ensures { λ r. ⌜ ((currency identifier : List ℕ) (u : List ℤ) → Stepped precedingInvoice (lentWith mode rules currency identifier) (linkDoc (now (table .entry)) (now (text .entry)) (now (links .entry))) (now (text .entry)) c s r (now (held .entry)) (now (held .exit)) (now (entries .entry)) (now (entries .exit)) u u) ⌝ }
+) -> Tallied
+    requires { ⌜ tally .invoices ≤ 4095 ⌝ }
+    ensures { λ r. ⌜ ((currency identifier : List ℕ) (p : Plain) (b : Billing) (m : MaybeTotals) (u : List ℤ) → Stepped precedingInvoice (lentWith mode rules currency identifier) (linkDoc (now (table .entry)) (now (text .entry)) (now (links .entry))) (now (text .entry)) c (state p tally b m next) (state p (r .tally) b m (r .next)) (now (held .entry)) (now (held .exit)) (now (entries .entry)) (now (entries .exit)) u u) ⌝ }
 {
-    let index = s.invoices;
-    let said = groups::preceding(table, text, links, mode, rules, entries, s.at, index, c);
+    let index = tally.invoices;
+    let said = groups::preceding(table, text, links, mode, rules, entries, next.at, index, c);
     let row = said.invoice;
-    State {
-        invoices: index + 1,
-        held_at: report::put_preceding(held, s.held_at, row),
-        at: said.at,
-        ..s
+    Tallied {
+        tally: Tally {
+            invoices: index + 1,
+            ..tally
+        },
+        next: Next {
+            held_at: report::put_preceding(held, next.held_at, row),
+            at: said.at,
+            ..next
+        },
+    }
+}
+
+// The rows that element c makes, by its kind.
+pub(crate) fn row_child(
+    table: &[u32],
+    text: &[u8],
+    links: &[u16],
+    mode: u32,
+    rules: u32,
+    currency: &[u8],
+    identifier: &[u8],
+    held: &mut [i64],
+    entries: &mut [i64],
+    tally: Tally,
+    next: Next,
+    kind: RowKind,
+    c: usize,
+) -> Tallied
+    requires { ⌜ Counted tally 4095 ⌝ }
+    ensures { λ r. ⌜ ((p : Plain) (b : Billing) (m : MaybeTotals) (u : List ℤ) → Stepped (rowIs kind) (lentWith mode rules (now (currency .entry)) (now (identifier .entry))) (linkDoc (now (table .entry)) (now (text .entry)) (now (links .entry))) (now (text .entry)) c (state p tally b m next) (state p (r .tally) b m (r .next)) (now (held .entry)) (now (held .exit)) (now (entries .entry)) (now (entries .exit)) u u) ⌝ }
+{
+    match kind {
+        RowKind::TradeTax => vat_breakdown(
+            table,
+            text,
+            links,
+            mode,
+            rules,
+            currency,
+            held,
+            entries,
+            tally,
+            next,
+            c,
+        ),
+        RowKind::AllowanceCharge => allowance_charge(
+            table,
+            text,
+            links,
+            mode,
+            rules,
+            currency,
+            held,
+            entries,
+            tally,
+            next,
+            c,
+        ),
+        RowKind::LogisticsCharge => logistics_charge(
+            table,
+            text,
+            links,
+            mode,
+            rules,
+            currency,
+            identifier,
+            held,
+            entries,
+            tally,
+            next,
+            c,
+        ),
+        RowKind::PrecedingInvoice => preceding_invoice(
+            table,
+            text,
+            links,
+            mode,
+            rules,
+            held,
+            entries,
+            tally,
+            next,
+            c,
+        ),
     }
 }

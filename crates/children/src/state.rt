@@ -5,6 +5,7 @@ use groups::PaymentTerms;
 use groups::Period;
 use groups::PointCode;
 use groups::VatState;
+use means::Next;
 use payment::Means;
 use payment::Payment;
 use report::Day;
@@ -35,28 +36,41 @@ pub enum MaybeTotals {
     Of(Totals),
 }
 
-// BT-90, BT-83, BT-6, BT-5, BG-10, BG-16, BT-7 and BT-8, BG-14, the payment terms, BG-22, BT-19, how
-// many VAT breakdowns, allowances, charges and preceding invoices there are, where the next held row
-// and entry go, and how many unmapped rows there are.
-pub struct State {
+// What one child gives alone: BT-90, BT-83, BT-6, BT-5, BG-10 and BT-19.
+pub struct Plain {
     pub creditor: Text,
     pub reference: Reference,
     pub tax_currency: Text,
     pub invoice_currency: Text,
     pub payee: MaybePayee,
-    pub payment: Payment,
-    pub vat: VatState,
-    pub period: MaybePeriod,
-    pub terms: PaymentTerms,
-    pub totals: MaybeTotals,
     pub accounting: Text,
+}
+
+// What is kept of children that make rows: BT-7 and BT-8, and how many VAT breakdowns, allowances,
+// charges and preceding invoices there are.
+pub struct Tally {
+    pub vat: VatState,
     pub breakdowns: u32,
     pub allowances: u32,
     pub charges: u32,
     pub invoices: u32,
-    pub held_at: usize,
-    pub at: usize,
-    pub count: usize,
+}
+
+// When and how is paid: BG-14, the payment terms and BG-16.
+pub struct Billing {
+    pub period: MaybePeriod,
+    pub terms: PaymentTerms,
+    pub payment: Payment,
+}
+
+// The reading so far, in parts, so that a child's function is given no more than its own: with BG-22, and
+// where the next rows go.
+pub struct State {
+    pub plain: Plain,
+    pub tally: Tally,
+    pub billing: Billing,
+    pub totals: MaybeTotals,
+    pub next: Next,
 }
 
 // Before the first child.
@@ -64,36 +78,44 @@ pub(crate) fn blank() -> State
     ensures { λ r. ⌜ Fresh r ⌝ }
 {
     State {
-        creditor: Text::Absent,
-        reference: Reference::Absent,
-        tax_currency: Text::Absent,
-        invoice_currency: Text::Absent,
-        payee: MaybePayee::Absent,
-        payment: Payment {
-            met: false,
-            code: Text::Absent,
-            text: Text::Absent,
-            means: Means::Unset,
+        plain: Plain {
+            creditor: Text::Absent,
+            reference: Reference::Absent,
+            tax_currency: Text::Absent,
+            invoice_currency: Text::Absent,
+            payee: MaybePayee::Absent,
+            accounting: Text::Absent,
         },
-        vat: VatState {
-            point: Day::Absent,
-            code: PointCode::Absent,
-            first: Text::Absent,
+        tally: Tally {
+            vat: VatState {
+                point: Day::Absent,
+                code: PointCode::Absent,
+                first: Text::Absent,
+            },
+            breakdowns: 0,
+            allowances: 0,
+            charges: 0,
+            invoices: 0,
         },
-        period: MaybePeriod::Absent,
-        terms: PaymentTerms {
-            note: Text::Absent,
-            due: Day::Absent,
-            mandate: Text::Absent,
+        billing: Billing {
+            period: MaybePeriod::Absent,
+            terms: PaymentTerms {
+                note: Text::Absent,
+                due: Day::Absent,
+                mandate: Text::Absent,
+            },
+            payment: Payment {
+                met: false,
+                code: Text::Absent,
+                text: Text::Absent,
+                means: Means::Unset,
+            },
         },
         totals: MaybeTotals::Absent,
-        accounting: Text::Absent,
-        breakdowns: 0,
-        allowances: 0,
-        charges: 0,
-        invoices: 0,
-        held_at: 0,
-        at: 0,
-        count: 0,
+        next: Next {
+            held_at: 0,
+            at: 0,
+            count: 0,
+        },
     }
 }

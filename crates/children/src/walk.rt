@@ -1,34 +1,29 @@
 // The walk over the children of a settlement.
 ghost use mathlib.Core.List.{List};
-ghost use Prim.Native.Nat.{_≤_};
+ghost use Prim.Native.Nat.{ℕ, _≤_};
 ghost use lib.IntN.{ℤ};
 ghost use lib.ListN.{length};
-ghost use Rattle.settlement.specs.Kinds.{other};
-ghost use Rattle.settlement.specs.Settlement.{kindOf};
+ghost use Rattle.settlement.specs.Kinds.{summation, other};
 ghost use Rattle.settlement.specs.Values.{Lent};
 ghost use Rattle.element.specs.LinkDoc.{linkDoc};
 ghost use Rattle.values.specs.Sites.{lentWith};
 ghost use Rattle.children.specs.Counts.{Counted};
-ghost use Rattle.children.specs.States.{stateOf};
+ghost use Rattle.children.specs.States.{state};
 ghost use Rattle.children.specs.Steps.{Stepped, Walked, Read, countable};
+ghost use Rattle.children.specs.declared.state.Plain.{Plain};
+ghost use Rattle.children.specs.declared.state.MaybeTotals.{MaybeTotals};
+ghost use Rattle.children.specs.declared.state.Tally.{Tally};
+ghost use Rattle.children.specs.declared.state.Billing.{Billing};
+use crate::billing::billing_child;
 use crate::kinds::Kind;
 use crate::kinds::kind_of;
-use crate::plain::accounting;
-use crate::plain::creditor_reference;
-use crate::plain::invoice_currency;
-use crate::plain::payee;
-use crate::plain::payment_reference;
-use crate::plain::tax_currency;
-use crate::rows::allowance_charge;
-use crate::rows::logistics_charge;
-use crate::rows::preceding_invoice;
-use crate::rows::vat_breakdown;
+use crate::plain::plain_child;
+use crate::rows::row_child;
+use crate::state::MaybeTotals;
+use crate::state::Plain;
 use crate::state::State;
 use crate::state::blank;
-use crate::terms::payment_means;
-use crate::terms::payment_terms;
-use crate::terms::period;
-use crate::terms::summation;
+use means::Next;
 use names::Parent;
 use report::Unmapped;
 
@@ -38,115 +33,72 @@ fn unmapped_child(
     text: &[u8],
     links: &[u16],
     unmapped: &mut [i64],
-    s: State,
+    next: Next,
     c: usize,
-) -> State
-    ensures { λ r. ⌜ ((L : Lent) (h e : List ℤ) → Stepped other L (linkDoc (now (table .entry)) (now (text .entry)) (now (links .entry))) (now (text .entry)) c s r h h e e (now (unmapped .entry)) (now (unmapped .exit))) ⌝ }
+) -> Next
+    ensures { λ r. ⌜ ((L : Lent) (p : Plain) (t : Tally) (b : Billing) (m : MaybeTotals) (h e : List ℤ) → Stepped other L (linkDoc (now (table .entry)) (now (text .entry)) (now (links .entry))) (now (text .entry)) c (state p t b m next) (state p t b m r) h h e e (now (unmapped .entry)) (now (unmapped .exit))) ⌝ }
 {
     let element = Unmapped {
         parent: Parent::Settlement,
         name: element::name(table, c),
     };
-    State {
-        count: unmapped::note_unmapped(text, unmapped, s.count, element),
-        ..s
+    Next {
+        count: unmapped::note_unmapped(text, unmapped, next.count, element),
+        ..next
     }
 }
 
-// One child more.
-fn read_child(
+// Totals, and where the next rows go.
+struct Summed {
+    totals: MaybeTotals,
+    next: Next,
+}
+
+// BG-22: the totals that element c is, by BT-5 and BT-6 as read so far.
+fn summation(
     table: &[u32],
     text: &[u8],
     links: &[u16],
     mode: u32,
     rules: u32,
     currency: &[u8],
-    identifier: &[u8],
-    held: &mut [i64],
     entries: &mut [i64],
     unmapped: &mut [i64],
-    s: State,
+    plain: Plain,
+    next: Next,
     c: usize,
-) -> State
-    requires { ⌜ Counted (stateOf s) 4095 ⌝ }
-    ensures { λ r. ⌜ Stepped (kindOf (linkDoc (now (table .entry)) (now (text .entry)) (now (links .entry))) c) (lentWith mode rules (now (currency .entry)) (now (identifier .entry))) (linkDoc (now (table .entry)) (now (text .entry)) (now (links .entry))) (now (text .entry)) c s r (now (held .entry)) (now (held .exit)) (now (entries .entry)) (now (entries .exit)) (now (unmapped .entry)) (now (unmapped .exit)) ⌝ }
+) -> Summed
+    ensures { λ r. ⌜ ((identifier : List ℕ) (t : Tally) (b : Billing) (m : MaybeTotals) (h : List ℤ) → Stepped summation (lentWith mode rules (now (currency .entry)) identifier) (linkDoc (now (table .entry)) (now (text .entry)) (now (links .entry))) (now (text .entry)) c (state plain t b m next) (state plain t b (r .totals) (r .next)) h h (now (entries .entry)) (now (entries .exit)) (now (unmapped .entry)) (now (unmapped .exit))) ⌝ }
 {
-    let kind = kind_of(table, text, links, c);
-    match kind {
-        Kind::CreditorReference => creditor_reference(table, text, links, s, c),
-        Kind::PaymentReference => payment_reference(table, text, links, s, c),
-        Kind::TaxCurrency => tax_currency(table, text, links, s, c),
-        Kind::InvoiceCurrency => invoice_currency(table, text, links, s, c),
-        Kind::Payee => payee(table, text, links, s, c),
-        Kind::PaymentMeans => payment_means(table, text, links, held, entries, unmapped, s, c),
-        Kind::TradeTax => vat_breakdown(
-            table,
-            text,
-            links,
-            mode,
-            rules,
-            currency,
-            held,
-            entries,
-            s,
-            c,
-        ),
-        Kind::Period => period(table, text, links, mode, entries, s, c),
-        Kind::AllowanceCharge => allowance_charge(
-            table,
-            text,
-            links,
-            mode,
-            rules,
-            currency,
-            held,
-            entries,
-            s,
-            c,
-        ),
-        Kind::LogisticsCharge => logistics_charge(
-            table,
-            text,
-            links,
-            mode,
-            rules,
-            currency,
-            identifier,
-            held,
-            entries,
-            s,
-            c,
-        ),
-        Kind::PaymentTerms => payment_terms(table, text, links, mode, entries, s, c),
-        Kind::Summation => summation(
-            table,
-            text,
-            links,
-            mode,
-            rules,
-            currency,
-            entries,
-            unmapped,
-            s,
-            c,
-        ),
-        Kind::PrecedingInvoice => preceding_invoice(
-            table,
-            text,
-            links,
-            mode,
-            rules,
-            held,
-            entries,
-            s,
-            c,
-        ),
-        Kind::Accounting => accounting(table, text, links, s, c),
-        Kind::Other => unmapped_child(table, text, links, unmapped, s, c),
+    let bt5 = plain.invoice_currency;
+    let bt6 = plain.tax_currency;
+    let said = totals::totals(
+        table,
+        text,
+        links,
+        mode,
+        rules,
+        currency,
+        entries,
+        next.at,
+        unmapped,
+        next.count,
+        bt5,
+        bt6,
+        c,
+    );
+    let found = said.totals;
+    Summed {
+        totals: MaybeTotals::Of(found),
+        next: Next {
+            at: said.at,
+            count: said.count,
+            ..next
+        },
     }
 }
 
-// All children of element n, from a state on.
+// All children of element n, from a state on, each by its kind.
 fn read_children(
     table: &[u32],
     text: &[u8],
@@ -161,34 +113,98 @@ fn read_children(
     start: State,
     n: usize,
 ) -> State
-    requires { ⌜ (length (now links) ≤ 12288) × Counted (stateOf start) 0 ⌝ }
+    requires { ⌜ (length (now links) ≤ 12288) × Counted (start .tally) 0 ⌝ }
     ensures { λ r. ⌜ Walked (lentWith mode rules (now (currency .entry)) (now (identifier .entry))) (linkDoc (now (table .entry)) (now (text .entry)) (now (links .entry))) (now (text .entry)) (linkDoc (now (table .entry)) (now (text .entry)) (now (links .entry)) .kids n) start r (now (held .entry)) (now (held .exit)) (now (entries .entry)) (now (entries .exit)) (now (unmapped .entry)) (now (unmapped .exit)) ⌝ }
 {
-    let mut s = start;
+    let mut plain = start.plain;
+    let mut tally = start.tally;
+    let mut billing = start.billing;
+    let mut totals = start.totals;
+    let mut next = start.next;
     let mut c = links::first_of(links, n);
     let mut left = links.len() / 3;
     while 0 < left {
         if c == 0 {
-            return s;
+            return State {
+                plain,
+                tally,
+                billing,
+                totals,
+                next,
+            };
         }
-        s = read_child(
-            table,
-            text,
-            links,
-            mode,
-            rules,
-            currency,
-            identifier,
-            held,
-            entries,
-            unmapped,
-            s,
-            c,
-        );
+        let kind = kind_of(table, text, links, c);
+        match kind {
+            Kind::Plain(k) => {
+                plain = plain_child(table, text, links, plain, k, c);
+            }
+            Kind::Row(k) => {
+                let said = row_child(
+                    table,
+                    text,
+                    links,
+                    mode,
+                    rules,
+                    currency,
+                    identifier,
+                    held,
+                    entries,
+                    tally,
+                    next,
+                    k,
+                    c,
+                );
+                tally = said.tally;
+                next = said.next;
+            }
+            Kind::Billing(k) => {
+                let said = billing_child(
+                    table,
+                    text,
+                    links,
+                    mode,
+                    held,
+                    entries,
+                    unmapped,
+                    billing,
+                    next,
+                    k,
+                    c,
+                );
+                billing = said.billing;
+                next = said.next;
+            }
+            Kind::Summation => {
+                let said = summation(
+                    table,
+                    text,
+                    links,
+                    mode,
+                    rules,
+                    currency,
+                    entries,
+                    unmapped,
+                    plain,
+                    next,
+                    c,
+                );
+                totals = said.totals;
+                next = said.next;
+            }
+            Kind::Other => {
+                next = unmapped_child(table, text, links, unmapped, next, c);
+            }
+        }
         c = links::next_of(links, c);
         left -= 1;
     }
-    s
+    State {
+        plain,
+        tally,
+        billing,
+        totals,
+        next,
+    }
 }
 
 // All children of record 0, from nothing on. No child is read where there are more links than a table

@@ -72,7 +72,7 @@ module _
     (accepted : refusal t x ≡ none) (room : cramped (roomOf h e u) t ≡ false)
     (l : List ℕ) (spelled : Spelled t x l)
     (walked : Read L (linkDoc t x l) x (countable l (linkDoc t x l .kids 0)) s h h′ e e₁ u u′)
-    (ended : Ended (reading.termsOf (stateOf s)) (reading.lateOf (L .rules) (stateOf s)) e₁ (s .at) f e′) where
+    (ended : Ended (reading.termsOf (stateOf s)) (reading.lateOf (L .rules) (stateOf s)) e₁ (s .next .at) f e′) where
   abbrev whole : Reading Place
   whole = reading.reading L (tableDoc t x) 0
 
@@ -86,7 +86,7 @@ module _
   unfolding reading.reading reading.readingOf tableDoc
   terms-read = ended .terms ∙ ap reading.termsOf (all-read .state)
 
-  held-read : Placed h 0 (rowsOf heldRow (whole .held)) h′ (s .«held_at»)
+  held-read : Placed h 0 (rowsOf heldRow (whole .held)) h′ (s .next .«held_at»)
   unfolding reading.reading reading.readingOf tableDoc
   held-read = all-read .held
 
@@ -94,11 +94,11 @@ module _
   unfolding reading.reading reading.readingOf tableDoc
   entries-read = said-then (all-read .said) (rw (all-read .state) at (ended .said))
 
-  unmapped-read : Listed x u (whole .unmapped) u′ (s .count)
+  unmapped-read : Listed x u (whole .unmapped) u′ (s .next .count)
   unfolding reading.reading reading.readingOf tableDoc
   unmapped-read = rw (table-order t x) (noted-all _ (listed-none x u) (omega (arith, strays-fit L (roomOf h e u) t x accepted room)) (all-read .noted))
 
-  pub answered : Answered (read whole) (record { refusal = 0; place = 0; held = s .«held_at» / 14; entries = f .at / 6; unmapped = s .count; terms = f .terms }) h h′ e e′ u u′
+  pub answered : Answered (read whole) (record { refusal = 0; place = 0; held = s .next .«held_at» / 14; entries = f .at / 6; unmapped = s .next .count; terms = f .terms }) h h′ e e′ u u′
   unfolding resultOf
   answered =
       let a = rows-length heldRow heldWidth held-width (whole .held) in

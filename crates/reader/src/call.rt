@@ -66,12 +66,13 @@ fn read_linked(
     );
     let end = finish(entries, rules, s);
     let terms = end.terms;
+    let next = s.next;
     Answer {
         refusal: 0,
         place: 0,
-        held: s.held_at / HELD_WIDTH,
+        held: next.held_at / HELD_WIDTH,
         entries: end.at / ENTRY_WIDTH,
-        unmapped: s.count,
+        unmapped: next.count,
         terms,
     }
 }

@@ -187,30 +187,34 @@ fn is_paid(met: bool, reference: Reference, mandate: Text, creditor: Text) -> bo
 
 // The terms after all children, and what is said at the end.
 pub(crate) fn finish(entries: &mut [i64], rules: u32, s: State) -> Finished
-    ensures { λ r. ⌜ Ended (reading.termsOf (stateOf s)) (reading.lateOf rules (stateOf s)) (now (entries .entry)) (s .at) r (now (entries .exit)) ⌝ }
+    ensures { λ r. ⌜ Ended (reading.termsOf (stateOf s)) (reading.lateOf rules (stateOf s)) (now (entries .entry)) (s .next .at) r (now (entries .exit)) ⌝ }
 {
-    let payment = s.payment;
-    let terms = s.terms;
-    let vat = s.vat;
+    let plain = s.plain;
+    let tally = s.tally;
+    let billing = s.billing;
     let totals = s.totals;
-    let reference = s.reference;
-    let creditor = s.creditor;
+    let next = s.next;
+    let payment = billing.payment;
+    let terms = billing.terms;
+    let vat = tally.vat;
+    let reference = plain.reference;
+    let creditor = plain.creditor;
     let mandate = terms.mandate;
-    let at = say_totals(entries, s.at, rules, totals);
+    let at = say_totals(entries, next.at, rules, totals);
     let held = payment.means;
     let debit = debited(entries, at, held, mandate, creditor);
     let means = debit.means;
     let bt89 = debit.mandate;
     let bt90 = debit.creditor;
-    let bt5 = s.invoice_currency;
-    let bt6 = s.tax_currency;
+    let bt5 = plain.invoice_currency;
+    let bt6 = plain.tax_currency;
     let bt7 = vat.point;
     let bt8 = vat.code;
     let bt9 = terms.due;
-    let bt19 = s.accounting;
+    let bt19 = plain.accounting;
     let bt20 = terms.note;
-    let payee = s.payee;
-    let period = s.period;
+    let payee = plain.payee;
+    let period = billing.period;
     let bt81 = payment.code;
     let bt82 = payment.text;
     Finished {

@@ -10,12 +10,12 @@ use Rattle.children.proofs.walk.unmapped_child.Tie as tie
 
 returns : tie.Need-returns
 unfolding stepBy actBy own home sameKind
-returns c L h e =
+returns c L p t b m h e =
     record {
       state = lanes refl refl refl refl refl refl refl refl refl refl refl refl refl refl refl;
       held = none-held refl refl h;
       said = none-said refl refl e;
-      noted = notings-one _ _ _ _ (rw (c .before .before .before .before .before .before .name .ensures) at (c .before .before .before .before .note-unmapped .ensures));
+      noted = notings-one _ _ _ _ (rw (c .before .before .before .name .ensures) at (c .before .note-unmapped .ensures));
     }
 
 pub unmapped-child-spec : {M : Type 1} → statement M

@@ -4,13 +4,13 @@ use Rattle.children.proofs.Stepping.{lanes}
 use Rattle.children.specs.Steps.{actBy, stepBy}
 use Rattle.settlement.specs.Kinds.{sameKind, home}
 use Rattle.settlement.specs.Settlement.{own}
-use Rattle.children.proofs.terms.payment_means.Statement.{statement}
-use Rattle.children.proofs.terms.payment_means.Tie as tie
+use Rattle.children.proofs.billing.payment_means.Statement.{statement}
+use Rattle.children.proofs.billing.payment_means.Tie as tie
 
 returns : tie.Need-returns
 unfolding stepBy actBy own home sameKind
-returns c L =
-    let acted = c .before .before .before .before .before .before .filled-in .ensures in
+returns c L p t m =
+    let acted = c .before .before .before .before .before .filled-in .ensures in
     record { state = lanes refl refl refl refl refl (acted .same) refl refl refl refl refl refl refl refl refl; held = acted .held; said = acted .said; noted = acted .noted }
 
 pub payment-means-spec : {M : Type 1} → statement M

@@ -5,13 +5,13 @@ use Rattle.children.proofs.Stepping.{lanes, none-held}
 use Rattle.children.specs.Steps.{actBy, stepBy}
 use Rattle.settlement.specs.Kinds.{sameKind, home}
 use Rattle.settlement.specs.Settlement.{own, seen, soFar}
-use Rattle.children.proofs.terms.summation.Statement.{statement}
-use Rattle.children.proofs.terms.summation.Tie as tie
+use Rattle.children.proofs.walk.summation.Statement.{statement}
+use Rattle.children.proofs.walk.summation.Tie as tie
 
 returns : tie.Need-returns
 unfolding stepBy actBy own seen soFar home sameKind
-returns c identifier h =
-    let acted = rw (totals-alike _ _ _ identifier _ _ _) at (c .before .before .before .before .before .before .totals .ensures h 0) in
+returns c identifier t b m h =
+    let acted = rw (totals-alike _ _ _ identifier _ _ _) at (c .before .before .before .totals .ensures h 0) in
     record { state = lanes refl refl refl refl refl refl refl refl refl refl refl (acted .same) refl refl refl; held = none-held (totals-holds _ _ _ identifier _ _ _) refl h; said = acted .said; noted = acted .noted }
 
 pub summation-spec : {M : Type 1} → statement M
