@@ -38,12 +38,13 @@ use Rattle.unmapped.proofs.Notes.{listed-none, noted-all, table-order}
 use Rattle.children.specs.States.{stateOf}
 use Rattle.children.specs.Steps.{countable, Read}
 use Rattle.children.specs.declared.state.State as State
-use Rattle.reader.specs.Answers.{termsOf, Refused}
+use Rattle.ending.specs.Terms.{termsOf}
+use Rattle.reader.specs.Answers.{Refused}
 use Rattle.reader.specs.Answered.{roomOf, Answered}
-use Rattle.reader.specs.Endings.{Ended}
+use Rattle.ending.specs.Endings.{Ended}
 use Rattle.reader.specs.Spelled.{Spelled}
 use Rattle.reader.specs.declared.answer.Answer as Code
-use Rattle.reader.specs.declared.ending.Finished as Finished
+use Rattle.ending.specs.declared.finishing.Finished as Finished
 
 -- numbers that were put at the front of a list with room for them
 put-front : (l vs : List ℤ) {l′ : List ℤ} → l′ ≡ put l 0 vs → length vs ≤ length l → l′ ≡ rowsThen vs l

@@ -6,7 +6,7 @@ use lib.ListN.{length}
 use Rattle.report.specs.Encoding.{rowsThen}
 use Rattle.settlement.specs.Outcome.{Room, Outcome}
 use Rattle.settlement.specs.Result.{resultOf}
-use Rattle.reader.specs.Answers.{termsOf}
+use Rattle.ending.specs.Terms.{termsOf}
 use Rattle.reader.specs.declared.answer.Answer as Code
 
 -- the room of the three lent lists

@@ -13,7 +13,7 @@ use Rattle.settlement.specs.TableDoc.{shows}
 use Rattle.settlement.specs.Shown.{mapTerms}
 use Rattle.settlement.specs.Outcome.{outcome}
 use Rattle.settlement.specs.Alike.{keep}
-use Rattle.reader.specs.Answers.{termsOf}
+use Rattle.ending.specs.Terms.{termsOf}
 use Rattle.reader.specs.Answered.{roomOf, Answered}
 use Rattle.reader.specs.declared.answer.Answer as Code
 

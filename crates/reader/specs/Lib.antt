@@ -1,5 +1,4 @@
 pub mod Answers
-pub mod Endings
 pub mod Answered
 pub mod Calls
 pub mod Spelled

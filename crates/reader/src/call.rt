@@ -13,7 +13,6 @@ ghost use Rattle.reader.specs.Answered.{roomOf, Answered};
 ghost use Rattle.reader.specs.Spelled.{Spelled};
 use crate::answer::Answer;
 use crate::answer::refused;
-use crate::ending::finish;
 use refusals::Verdict;
 use report::ENTRY_WIDTH;
 use report::HELD_WIDTH;
@@ -64,7 +63,7 @@ fn read_linked(
         entries,
         unmapped,
     );
-    let end = finish(entries, rules, s);
+    let end = ending::finish(entries, rules, s);
     let terms = end.terms;
     let next = s.next;
     Answer {

@@ -6,8 +6,6 @@
 // has a `requires`, and the crate assumes nothing of its own.
 mod answer;
 mod call;
-mod ending;
 
 pub use answer::Answer;
-pub use answer::Terms;
 pub use call::read;

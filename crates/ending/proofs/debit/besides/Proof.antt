@@ -2,8 +2,8 @@ use mathlib.Core.Path.{refl}
 use borrow.Author.Needs.{needs}
 use Rattle.settlement.specs.Settlement.{besides}
 use Rattle.values.proofs.Telling.{said-then}
-use Rattle.reader.proofs.ending.besides.Statement.{statement}
-use Rattle.reader.proofs.ending.besides.Tie as tie
+use Rattle.ending.proofs.debit.besides.Statement.{statement}
+use Rattle.ending.proofs.debit.besides.Tie as tie
 
 returns : tie.Need-returns
 unfolding besides

@@ -1,7 +1,7 @@
 use borrow.Author.Needs.{needs}
 use Rattle.settlement.specs.Settlement.{termsOf, debitOf, debited}
-use Rattle.reader.proofs.answer.blank_terms.Statement.{statement}
-use Rattle.reader.proofs.answer.blank_terms.Tie as tie
+use Rattle.ending.proofs.terms.blank_terms.Statement.{statement}
+use Rattle.ending.proofs.terms.blank_terms.Tie as tie
 
 returns : tie.Need-returns
 unfolding termsOf debitOf debited

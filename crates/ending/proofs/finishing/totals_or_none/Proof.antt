@@ -1,6 +1,6 @@
 use borrow.Author.Needs.{needs}
-use Rattle.reader.proofs.ending.totals_or_none.Statement.{statement}
-use Rattle.reader.proofs.ending.totals_or_none.Tie as tie
+use Rattle.ending.proofs.finishing.totals_or_none.Statement.{statement}
+use Rattle.ending.proofs.finishing.totals_or_none.Tie as tie
 
 returns : tie.Need-returns
 returns c = rw (c .before .enum-told .given .1) (c .no-totals .ensures)

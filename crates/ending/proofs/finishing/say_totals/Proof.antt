@@ -1,7 +1,7 @@
 use borrow.Author.Needs.{needs}
 use Rattle.values.proofs.Telling.{said-none}
-use Rattle.reader.proofs.ending.say_totals.Statement.{statement}
-use Rattle.reader.proofs.ending.say_totals.Tie as tie
+use Rattle.ending.proofs.finishing.say_totals.Statement.{statement}
+use Rattle.ending.proofs.finishing.say_totals.Tie as tie
 
 returns : tie.Need-returns
 returns c = rw (c .before .before .before .enum-told .given .1) (c .before .missing-totals .ensures)

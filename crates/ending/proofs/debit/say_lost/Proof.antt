@@ -1,7 +1,7 @@
 use borrow.Author.Needs.{needs}
 use Rattle.values.proofs.Telling.{said-none}
-use Rattle.reader.proofs.ending.say_lost.Statement.{statement}
-use Rattle.reader.proofs.ending.say_lost.Tie as tie
+use Rattle.ending.proofs.debit.say_lost.Statement.{statement}
+use Rattle.ending.proofs.debit.say_lost.Tie as tie
 
 returns : tie.Need-returns
 returns c = rw (c .enum-told .given .1) (said-none _ _)

@@ -1,6 +1,6 @@
 use borrow.Author.Needs.{needs}
-use Rattle.reader.proofs.ending.debit_of.Statement.{statement}
-use Rattle.reader.proofs.ending.debit_of.Tie as tie
+use Rattle.ending.proofs.debit.debit_of.Statement.{statement}
+use Rattle.ending.proofs.debit.debit_of.Tie as tie
 
 returns-2 : tie.Need-returns-2
 returns-2 c = rw (← c .before .before .before .is-absent .ensures, c .before .before .if1 .taken, ← c .before .is-absent2 .ensures, c .if2 .left)

@@ -1,6 +1,6 @@
 use borrow.Author.Needs.{needs}
-use Rattle.reader.proofs.answer.no_totals.Statement.{statement}
-use Rattle.reader.proofs.answer.no_totals.Tie as tie
+use Rattle.ending.proofs.terms.no_totals.Statement.{statement}
+use Rattle.ending.proofs.terms.no_totals.Tie as tie
 
 returns : tie.Need-returns
 returns c = rw (c .before .before .before .zero .ensures, c .before .before .zero2 .ensures, c .before .zero3 .ensures, c .zero4 .ensures)

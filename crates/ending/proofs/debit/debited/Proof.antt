@@ -2,8 +2,8 @@ use mathlib.Core.Path.{refl}
 use borrow.Author.Needs.{needs}
 use Rattle.settlement.specs.Settlement.{debited}
 use Rattle.values.proofs.Telling.{said-none}
-use Rattle.reader.proofs.ending.debited.Statement.{statement}
-use Rattle.reader.proofs.ending.debited.Tie as tie
+use Rattle.ending.proofs.debit.debited.Statement.{statement}
+use Rattle.ending.proofs.debit.debited.Tie as tie
 
 returns : tie.Need-returns
 unfolding debited

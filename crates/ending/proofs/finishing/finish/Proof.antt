@@ -1,10 +1,10 @@
 use borrow.Author.Needs.{needs}
-use Rattle.reader.proofs.Ends.{terms-made}
-use Rattle.reader.specs.Endings.{missingTotals}
+use Rattle.ending.proofs.Ends.{terms-made}
+use Rattle.ending.specs.Endings.{missingTotals}
 use Rattle.settlement.specs.Settlement.{termsOf, debitOf, lateOf}
 use Rattle.values.proofs.Telling.{said-then}
-use Rattle.reader.proofs.ending.finish.Statement.{statement}
-use Rattle.reader.proofs.ending.finish.Tie as tie
+use Rattle.ending.proofs.finishing.finish.Statement.{statement}
+use Rattle.ending.proofs.finishing.finish.Tie as tie
 
 returns : tie.Need-returns
 unfolding termsOf debitOf lateOf missingTotals

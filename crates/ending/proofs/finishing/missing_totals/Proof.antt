@@ -1,8 +1,8 @@
 use borrow.Author.Needs.{needs}
-use Rattle.reader.specs.Endings.{missingTotals}
+use Rattle.ending.specs.Endings.{missingTotals}
 use Rattle.values.proofs.Telling.{said-then}
-use Rattle.reader.proofs.ending.missing_totals.Statement.{statement}
-use Rattle.reader.proofs.ending.missing_totals.Tie as tie
+use Rattle.ending.proofs.finishing.missing_totals.Statement.{statement}
+use Rattle.ending.proofs.finishing.missing_totals.Tie as tie
 
 returns : tie.Need-returns
 unfolding missingTotals

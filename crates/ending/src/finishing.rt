@@ -1,125 +1,32 @@
-// The end of a reading: what is missing, what becomes of mandate and creditor identifier, the terms.
+// The end of a reading: what is missing, and the terms.
 ghost use mathlib.Core.Path.{_≡_};
-ghost use mathlib.Core.List.{[], _∷_};
+ghost use mathlib.Core.List.{[]};
 ghost use mathlib.Core.Option.{none};
-ghost use Rattle.names.specs.declared.term.Term.the-variants as Term;
 ghost use Rattle.report.specs.Values.{textOf};
 ghost use Rattle.settlement.specs.Document.{maybe, or};
 ghost use Rattle.settlement.specs.Settlement as reading;
 ghost use Rattle.settlement.specs.Shapes.{noTotals};
-ghost use Rattle.settlement.specs.Summation.{isNone};
-ghost use Rattle.settlement.specs.Values.{site, entry};
 ghost use Rattle.values.specs.Told.{Said};
-ghost use Rattle.payment.specs.Walks.{meansOf};
 ghost use Rattle.totals.specs.Reading.{totalsOf};
 ghost use Rattle.children.specs.States.{referenceOf, maybeTotalsOf, stateOf};
-ghost use Rattle.reader.specs.Endings.{missingTotals, freshMeans, isPaid, Debited, Ended};
-use crate::answer::Terms;
-use crate::answer::no_totals;
+ghost use Rattle.ending.specs.Endings.{missingTotals, isPaid, Ended};
+use crate::debit::debited;
+use crate::debit::is_absent;
+use crate::terms::Terms;
+use crate::terms::no_totals;
 use children::MaybeTotals;
 use children::Reference;
 use children::State;
 use codes::Rule;
-use names::Message;
 use names::Path;
 use names::Term;
-use payment::Means;
 use report::Text;
 use totals::Totals;
 
-// The means with mandate and creditor identifier, and where the next entry goes.
-pub(crate) struct Debit {
-    pub means: Means,
-    pub mandate: Text,
-    pub creditor: Text,
-    pub at: usize,
-}
-
 // The terms, and where the next entry would go.
-pub(crate) struct Finished {
+pub struct Finished {
     pub terms: Terms,
     pub at: usize,
-}
-
-// Whether a text is absent.
-fn is_absent(t: Text) -> bool
-    ensures { λ r. ⌜ r ≡ isNone (textOf t) ⌝ }
-{
-    match t {
-        Text::Absent => true,
-        Text::At(_) => false,
-    }
-}
-
-// Says that a text is lost, if it is there.
-fn say_lost(entries: &mut [i64], at: usize, message: Message, path: Path, lost: Text) -> usize
-    ensures { λ r. ⌜ Said (maybe [] (λ p. entry message (site path Term.None) none ∷ []) (textOf lost)) (now (entries .entry)) at (now (entries .exit)) r ⌝ }
-{
-    match lost {
-        Text::Absent => at,
-        Text::At(_) => values::say(
-            entries,
-            at,
-            message,
-            values::site(path, Term::None),
-            Text::Absent,
-        ),
-    }
-}
-
-// Mandate and creditor identifier beside a card or transfers: both are lost, and said.
-fn besides(entries: &mut [i64], at: usize, means: Means, mandate: Text, creditor: Text) -> Debit
-    ensures { λ r. ⌜ Debited (reading.besides (meansOf means) (textOf mandate) (textOf creditor)) (now (entries .entry)) at r (now (entries .exit)) ⌝ }
-{
-    let path = Path::PaymentTermsDirectDebitMandate;
-    let first = say_lost(entries, at, Message::MandateBesideOther, path, mandate);
-    let other = Path::SettlementCreditorReference;
-    Debit {
-        means,
-        mandate: Text::Absent,
-        creditor: Text::Absent,
-        at: say_lost(
-            entries,
-            first,
-            Message::CreditorBesideOther,
-            other,
-            creditor,
-        ),
-    }
-}
-
-// Where no means are held, a mandate or a creditor identifier makes a direct debit.
-fn debit_of(mandate: Text, creditor: Text) -> Means
-    ensures { λ r. ⌜ meansOf r ≡ freshMeans (textOf mandate) (textOf creditor) ⌝ }
-{
-    if is_absent(mandate) {
-        if is_absent(creditor) {
-            return Means::Unset;
-        }
-    }
-    Means::Debit(Text::Absent)
-}
-
-// What becomes of the means, the mandate and the creditor identifier.
-fn debited(entries: &mut [i64], at: usize, means: Means, mandate: Text, creditor: Text) -> Debit
-    ensures { λ r. ⌜ Debited (reading.debited (meansOf means) (textOf mandate) (textOf creditor)) (now (entries .entry)) at r (now (entries .exit)) ⌝ }
-{
-    match means {
-        Means::Unset => Debit {
-            means: debit_of(mandate, creditor),
-            mandate,
-            creditor,
-            at,
-        },
-        Means::Debit(account) => Debit {
-            means: Means::Debit(account),
-            mandate,
-            creditor,
-            at,
-        },
-        Means::Card(card) => besides(entries, at, Means::Card(card), mandate, creditor),
-        Means::Transfers => besides(entries, at, Means::Transfers, mandate, creditor),
-    }
 }
 
 // The four required amounts of a summation that is not there.
@@ -186,7 +93,7 @@ fn is_paid(met: bool, reference: Reference, mandate: Text, creditor: Text) -> bo
 }
 
 // The terms after all children, and what is said at the end.
-pub(crate) fn finish(entries: &mut [i64], rules: u32, s: State) -> Finished
+pub fn finish(entries: &mut [i64], rules: u32, s: State) -> Finished
     ensures { λ r. ⌜ Ended (reading.termsOf (stateOf s)) (reading.lateOf rules (stateOf s)) (now (entries .entry)) (s .next .at) r (now (entries .exit)) ⌝ }
 {
     let plain = s.plain;

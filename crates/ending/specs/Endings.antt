@@ -16,9 +16,9 @@ use Rattle.settlement.specs.Summation.{isNone}
 use Rattle.settlement.specs.Values.{site, missing}
 use Rattle.values.specs.Told.{Said}
 use Rattle.payment.specs.Walks.{meansOf}
-use Rattle.reader.specs.Answers.{termsOf}
-use Rattle.reader.specs.declared.ending.Debit as CodeDebit
-use Rattle.reader.specs.declared.ending.Finished as CodeFinished
+use Rattle.ending.specs.Terms.{termsOf}
+use Rattle.ending.specs.declared.debit.Debit as CodeDebit
+use Rattle.ending.specs.declared.finishing.Finished as CodeFinished
 
 -- no summation: four absences
 unfoldable pub missingTotals : ℕ → List (Entry Place)
