@@ -25,8 +25,8 @@ use Rattle.groups.proofs.Meaning.{vat-breakdown-says, vat-breakdown-holds, vat-
 use Rattle.values.specs.Sites.{lentWith}
 use Rattle.charges.specs.Charges.{heldAs, allowanceChargeSays, logisticsSays}
 use Rattle.charges.proofs.Meaning.{allowance-charge-any, allowance-charge-says, allowance-charge-holds, allowance-charge-next, allowance-charge-strays, logistics-says, logistics-holds, logistics-next, logistics-strays}
-use Rattle.children.proofs.Identifier.{vat-breakdown-alike}
-use Rattle.children.proofs.Stepping.{none-held}
+use Rattle.steps.proofs.Identifier.{vat-breakdown-alike}
+use Rattle.steps.proofs.Stepping.{none-held}
 
 -- a child that says something and holds one row
 pub row-acted :

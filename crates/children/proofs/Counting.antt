@@ -12,10 +12,10 @@ use Rattle.settlement.specs.Settlement.{own, precedingOf}
 use Rattle.settlement.specs.Tax.{isCharge, counted, tradeTaxOf, allowanceOrCharge, logistics, logisticsRead, logisticsLeft}
 use Rattle.settlement.specs.Values.{Lent}
 use Rattle.children.specs.Counts.{Counted}
-use Rattle.children.specs.States.{stateOf}
-use Rattle.children.specs.Steps.{actBy, stepBy}
-use Rattle.children.specs.declared.state.State as Code
-use Rattle.children.specs.declared.state.Tally.{Tally}
+use Rattle.steps.specs.States.{stateOf}
+use Rattle.steps.specs.Steps.{actBy, stepBy}
+use Rattle.steps.specs.declared.state.State as Code
+use Rattle.steps.specs.declared.state.Tally.{Tally}
 
 -- so many more allowances and charges
 pub record OneMore (s r : Counts) : Type 0 where

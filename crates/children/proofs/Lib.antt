@@ -1,5 +1,3 @@
-pub mod Stepping
-pub mod Identifier
 pub mod Acting
 pub mod Counting
 pub mod Walking

@@ -14,14 +14,15 @@ use Rattle.element.specs.LinkDoc.{linkDoc}
 use Rattle.children.specs.Counts.{Counted}
 use Rattle.means.specs.declared.Next.{Next}
 use Rattle.children.specs.Kinds.{kindIs}
-use Rattle.children.specs.States.{state}
-use Rattle.children.specs.Steps.{Stepped, Walked}
+use Rattle.steps.specs.States.{state}
+use Rattle.steps.specs.Steps.{Stepped}
+use Rattle.children.specs.Walks.{Walked}
 use Rattle.children.specs.declared.kinds.Kind as Kind
-use Rattle.children.specs.declared.state.State as Code
-use Rattle.children.specs.declared.state.Plain.{Plain}
-use Rattle.children.specs.declared.state.Tally.{Tally}
-use Rattle.children.specs.declared.state.Billing.{Billing}
-use Rattle.children.specs.declared.state.MaybeTotals.{MaybeTotals}
+use Rattle.steps.specs.declared.state.State as Code
+use Rattle.steps.specs.declared.state.Plain.{Plain}
+use Rattle.steps.specs.declared.state.Tally.{Tally}
+use Rattle.steps.specs.declared.state.Billing.{Billing}
+use Rattle.steps.specs.declared.state.MaybeTotals.{MaybeTotals}
 use Rattle.children.proofs.Counting.{counted-more}
 use Rattle.children.proofs.Walking.{walked-none, walked-more, walked-as}
 

@@ -20,9 +20,10 @@ use Rattle.values.proofs.Telling.{said-none, said-then}
 use Rattle.unmapped.specs.Noting.{notings, Noted}
 use Rattle.unmapped.proofs.Notings.{notings-none, notings-then}
 use Rattle.children.specs.Counts.{Counted}
-use Rattle.children.specs.States.{stateOf, Fresh}
-use Rattle.children.specs.Steps.{actBy, stepBy, Stepped, Walked, Read}
-use Rattle.children.specs.declared.state.State as Code
+use Rattle.steps.specs.States.{stateOf, Fresh}
+use Rattle.steps.specs.Steps.{actBy, stepBy, Stepped}
+use Rattle.children.specs.Walks.{Walked, Read}
+use Rattle.steps.specs.declared.state.State as Code
 
 -- what is said on the way, with one more
 all-more : {S C O : Type 0} (f : S → C → S) (emit : S → C → List O) (s : S) (l : List C) (c : C) → all f emit s l ++ emit (foldl f s l) c ≡ all f emit s (l ++ c ∷ [])

@@ -1,6 +1,6 @@
 -- How many rows of each group there may be so far.
 use Prim.Native.Nat.{ℕ, _≤_}
-use Rattle.children.specs.declared.state.Tally.{Tally}
+use Rattle.steps.specs.declared.state.Tally.{Tally}
 
 -- at most n VAT breakdowns, allowances, charges and preceding invoices
 pub record Counted (t : Tally) (n : ℕ) : Type 0 where

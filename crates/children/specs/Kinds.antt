@@ -1,22 +1,10 @@
 -- What the code's kind of a child stands for.
-use Rattle.settlement.specs.Kinds.{Kind, creditorReference, paymentReference, taxCurrency, invoiceCurrency, payee, paymentMeans, tradeTax, period, allowanceCharge, logisticsCharge, paymentTerms, summation, precedingInvoice, accounting, other}
-use Rattle.children.specs.declared.kinds.PlainKind.{PlainKind}
-use Rattle.children.specs.declared.kinds.PlainKind.the-variants.{CreditorReference, PaymentReference, TaxCurrency, InvoiceCurrency, Payee, Accounting}
+use Rattle.settlement.specs.Kinds.{Kind, tradeTax, allowanceCharge, logisticsCharge, summation, precedingInvoice, other}
+use Rattle.steps.specs.Kinds.{plainIs, billingIs}
 use Rattle.children.specs.declared.kinds.RowKind.{RowKind}
 use Rattle.children.specs.declared.kinds.RowKind.the-variants.{TradeTax, AllowanceCharge, LogisticsCharge, PrecedingInvoice}
-use Rattle.children.specs.declared.kinds.BillingKind.{BillingKind}
-use Rattle.children.specs.declared.kinds.BillingKind.the-variants.{Period, PaymentTerms, PaymentMeans}
 use Rattle.children.specs.declared.kinds.Kind as Code
 use Rattle.children.specs.declared.kinds.Kind.the-variants.{Plain, Row, Billing, Summation, Other}
-
--- of a child that gives a term or a group alone
-abbrev pub plainIs : PlainKind → Kind
-plainIs CreditorReference = creditorReference
-plainIs PaymentReference = paymentReference
-plainIs TaxCurrency = taxCurrency
-plainIs InvoiceCurrency = invoiceCurrency
-plainIs Payee = payee
-plainIs Accounting = accounting
 
 -- of a child that makes a row
 abbrev pub rowIs : RowKind → Kind
@@ -24,12 +12,6 @@ rowIs TradeTax = tradeTax
 rowIs AllowanceCharge = allowanceCharge
 rowIs LogisticsCharge = logisticsCharge
 rowIs PrecedingInvoice = precedingInvoice
-
--- of a child that says when or how is paid
-abbrev pub billingIs : BillingKind → Kind
-billingIs Period = period
-billingIs PaymentTerms = paymentTerms
-billingIs PaymentMeans = paymentMeans
 
 -- of any child
 abbrev pub kindIs : Code.Kind → Kind

@@ -1,4 +1,3 @@
-pub mod Counts
 pub mod Kinds
-pub mod States
-pub mod Steps
+pub mod Counts
+pub mod Walks

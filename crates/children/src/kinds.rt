@@ -5,16 +5,8 @@ ghost use Rattle.settlement.specs.Kinds.{other, meant, kinds, kindNamed};
 ghost use Rattle.settlement.specs.Settlement.{kindOf};
 ghost use Rattle.element.specs.LinkDoc.{linkDoc};
 ghost use Rattle.children.specs.Kinds.{kindIs};
-
-// A child that gives a term or a group alone.
-pub(crate) enum PlainKind {
-    CreditorReference,
-    PaymentReference,
-    TaxCurrency,
-    InvoiceCurrency,
-    Payee,
-    Accounting,
-}
+use steps::BillingKind;
+use steps::PlainKind;
 
 // A child that makes a row.
 pub(crate) enum RowKind {
@@ -22,13 +14,6 @@ pub(crate) enum RowKind {
     AllowanceCharge,
     LogisticsCharge,
     PrecedingInvoice,
-}
-
-// A child that says when or how is paid.
-pub(crate) enum BillingKind {
-    Period,
-    PaymentTerms,
-    PaymentMeans,
 }
 
 // What a child is, by the part of the state that it changes.

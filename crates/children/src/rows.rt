@@ -7,15 +7,15 @@ ghost use Rattle.element.specs.LinkDoc.{linkDoc};
 ghost use Rattle.values.specs.Sites.{lentWith};
 ghost use Rattle.children.specs.Counts.{Counted};
 ghost use Rattle.children.specs.Kinds.{rowIs};
-ghost use Rattle.children.specs.States.{state};
-ghost use Rattle.children.specs.Steps.{Stepped};
-ghost use Rattle.children.specs.declared.state.Plain.{Plain};
-ghost use Rattle.children.specs.declared.state.Billing.{Billing};
-ghost use Rattle.children.specs.declared.state.MaybeTotals.{MaybeTotals};
+ghost use Rattle.steps.specs.States.{state};
+ghost use Rattle.steps.specs.Steps.{Stepped};
+ghost use Rattle.steps.specs.declared.state.Plain.{Plain};
+ghost use Rattle.steps.specs.declared.state.Billing.{Billing};
+ghost use Rattle.steps.specs.declared.state.MaybeTotals.{MaybeTotals};
 use crate::kinds::RowKind;
-use crate::state::Tally;
 use charges::MaybeCharge;
 use means::Next;
+use steps::Tally;
 
 // A tally, and where the next rows go.
 pub(crate) struct Tallied {

@@ -1,31 +1,27 @@
 // The walk over the children of a settlement.
 ghost use mathlib.Core.List.{List};
-ghost use Prim.Native.Nat.{ℕ, _≤_};
+ghost use Prim.Native.Nat.{_≤_};
 ghost use lib.IntN.{ℤ};
 ghost use lib.ListN.{length};
-ghost use Rattle.settlement.specs.Kinds.{summation, other};
+ghost use Rattle.settlement.specs.Kinds.{other};
 ghost use Rattle.settlement.specs.Values.{Lent};
 ghost use Rattle.element.specs.LinkDoc.{linkDoc};
 ghost use Rattle.values.specs.Sites.{lentWith};
 ghost use Rattle.children.specs.Counts.{Counted};
-ghost use Rattle.children.specs.States.{state};
-ghost use Rattle.children.specs.Steps.{Stepped, Walked, Read, countable};
-ghost use Rattle.children.specs.declared.state.Plain.{Plain};
-ghost use Rattle.children.specs.declared.state.MaybeTotals.{MaybeTotals};
-ghost use Rattle.children.specs.declared.state.Tally.{Tally};
-ghost use Rattle.children.specs.declared.state.Billing.{Billing};
-use crate::billing::billing_child;
+ghost use Rattle.steps.specs.States.{state};
+ghost use Rattle.steps.specs.Steps.{Stepped};
+ghost use Rattle.children.specs.Walks.{Walked, Read, countable};
+ghost use Rattle.steps.specs.declared.state.Plain.{Plain};
+ghost use Rattle.steps.specs.declared.state.MaybeTotals.{MaybeTotals};
+ghost use Rattle.steps.specs.declared.state.Tally.{Tally};
+ghost use Rattle.steps.specs.declared.state.Billing.{Billing};
 use crate::kinds::Kind;
 use crate::kinds::kind_of;
-use crate::plain::plain_child;
 use crate::rows::row_child;
-use crate::state::MaybeTotals;
-use crate::state::Plain;
-use crate::state::State;
-use crate::state::blank;
 use means::Next;
 use names::Parent;
 use report::Unmapped;
+use steps::State;
 
 // A child that is not mapped is noted.
 fn unmapped_child(
@@ -45,56 +41,6 @@ fn unmapped_child(
     Next {
         count: unmapped::note_unmapped(text, unmapped, next.count, element),
         ..next
-    }
-}
-
-// Totals, and where the next rows go.
-struct Summed {
-    totals: MaybeTotals,
-    next: Next,
-}
-
-// BG-22: the totals that element c is, by BT-5 and BT-6 as read so far.
-fn summation(
-    table: &[u32],
-    text: &[u8],
-    links: &[u16],
-    mode: u32,
-    rules: u32,
-    currency: &[u8],
-    entries: &mut [i64],
-    unmapped: &mut [i64],
-    plain: Plain,
-    next: Next,
-    c: usize,
-) -> Summed
-    ensures { λ r. ⌜ ((identifier : List ℕ) (t : Tally) (b : Billing) (m : MaybeTotals) (h : List ℤ) → Stepped summation (lentWith mode rules (now (currency .entry)) identifier) (linkDoc (now (table .entry)) (now (text .entry)) (now (links .entry))) (now (text .entry)) c (state plain t b m next) (state plain t b (r .totals) (r .next)) h h (now (entries .entry)) (now (entries .exit)) (now (unmapped .entry)) (now (unmapped .exit))) ⌝ }
-{
-    let bt5 = plain.invoice_currency;
-    let bt6 = plain.tax_currency;
-    let said = totals::totals(
-        table,
-        text,
-        links,
-        mode,
-        rules,
-        currency,
-        entries,
-        next.at,
-        unmapped,
-        next.count,
-        bt5,
-        bt6,
-        c,
-    );
-    let found = said.totals;
-    Summed {
-        totals: MaybeTotals::Of(found),
-        next: Next {
-            at: said.at,
-            count: said.count,
-            ..next
-        },
     }
 }
 
@@ -136,7 +82,7 @@ fn read_children(
         let kind = kind_of(table, text, links, c);
         match kind {
             Kind::Plain(k) => {
-                plain = plain_child(table, text, links, plain, k, c);
+                plain = steps::plain_child(table, text, links, plain, k, c);
             }
             Kind::Row(k) => {
                 let said = row_child(
@@ -158,7 +104,7 @@ fn read_children(
                 next = said.next;
             }
             Kind::Billing(k) => {
-                let said = billing_child(
+                let said = steps::billing_child(
                     table,
                     text,
                     links,
@@ -175,7 +121,7 @@ fn read_children(
                 next = said.next;
             }
             Kind::Summation => {
-                let said = summation(
+                let said = steps::summation(
                     table,
                     text,
                     links,
@@ -223,7 +169,7 @@ pub fn read_settlement(
 ) -> State
     ensures { λ r. ⌜ Read (lentWith mode rules (now (currency .entry)) (now (identifier .entry))) (linkDoc (now (table .entry)) (now (text .entry)) (now (links .entry))) (now (text .entry)) (countable (now (links .entry)) (linkDoc (now (table .entry)) (now (text .entry)) (now (links .entry)) .kids 0)) r (now (held .entry)) (now (held .exit)) (now (entries .entry)) (now (entries .exit)) (now (unmapped .entry)) (now (unmapped .exit)) ⌝ }
 {
-    let start = blank();
+    let start = steps::blank();
     if links.len() <= 12288 {
         return read_children(
             table,

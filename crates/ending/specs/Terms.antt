@@ -5,7 +5,7 @@ use Rattle.settlement.specs.Shapes.{Terms}
 use Rattle.groups.specs.Taxes.{pointCodeOf}
 use Rattle.payment.specs.Walks.{meansOf}
 use Rattle.totals.specs.Reading.{totalsOf}
-use Rattle.children.specs.States.{maybePayeeOf, maybePeriodOf}
+use Rattle.steps.specs.States.{maybePayeeOf, maybePeriodOf}
 use Rattle.ending.specs.declared.terms.Terms as Code
 
 -- the terms

@@ -8,19 +8,19 @@ ghost use Rattle.settlement.specs.Settlement as reading;
 ghost use Rattle.settlement.specs.Shapes.{noTotals};
 ghost use Rattle.values.specs.Told.{Said};
 ghost use Rattle.totals.specs.Reading.{totalsOf};
-ghost use Rattle.children.specs.States.{referenceOf, maybeTotalsOf, stateOf};
+ghost use Rattle.steps.specs.States.{referenceOf, maybeTotalsOf, stateOf};
 ghost use Rattle.ending.specs.Endings.{missingTotals, isPaid, Ended};
 use crate::debit::debited;
 use crate::debit::is_absent;
 use crate::terms::Terms;
 use crate::terms::no_totals;
-use children::MaybeTotals;
-use children::Reference;
-use children::State;
 use codes::Rule;
 use names::Path;
 use names::Term;
 use report::Text;
+use steps::MaybeTotals;
+use steps::Reference;
+use steps::State;
 use totals::Totals;
 
 // The terms, and where the next entry would go.

@@ -5,13 +5,13 @@ ghost use Rattle.settlement.specs.Shapes.{noTotals};
 ghost use Rattle.totals.specs.Reading.{totalsOf};
 ghost use Rattle.ending.specs.Terms.{termsOf};
 use amount::InvoiceAmount;
-use children::MaybePayee;
-use children::MaybePeriod;
 use groups::PointCode;
 use payment::Means;
 use report::Amount;
 use report::Day;
 use report::Text;
+use steps::MaybePayee;
+use steps::MaybePeriod;
 use totals::Sums;
 use totals::Totals;
 

@@ -35,9 +35,9 @@ use Rattle.values.specs.Told.{Said}
 use Rattle.values.proofs.Telling.{said-then}
 use Rattle.unmapped.specs.Listed.{Listed}
 use Rattle.unmapped.proofs.Notes.{listed-none, noted-all, table-order}
-use Rattle.children.specs.States.{stateOf}
-use Rattle.children.specs.Steps.{countable, Read}
-use Rattle.children.specs.declared.state.State as State
+use Rattle.steps.specs.States.{stateOf}
+use Rattle.children.specs.Walks.{countable, Read}
+use Rattle.steps.specs.declared.state.State as State
 use Rattle.ending.specs.Terms.{termsOf}
 use Rattle.reader.specs.Answers.{Refused}
 use Rattle.reader.specs.Answered.{roomOf, Answered}

@@ -20,7 +20,7 @@ use Rattle.settlement.specs.Outcome.{Room, Outcome, outcome}
 use Rattle.settlement.specs.Result.{flag, identifierCells, payeeCells, periodCells, meansCells, totalsCells, termsRow, resultOf, answerRow}
 use Rattle.payment.specs.Walks.{meansOf}
 use Rattle.totals.specs.Reading.{totalsOf}
-use Rattle.children.specs.States.{maybePayeeOf, maybePeriodOf}
+use Rattle.steps.specs.States.{maybePayeeOf, maybePeriodOf}
 use Rattle.ending.specs.Terms.{termsOf}
 use Rattle.reader.specs.Answered.{Answered}
 use Rattle.reader.specs.declared.answer.Answer as Code

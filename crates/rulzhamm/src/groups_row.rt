@@ -5,9 +5,7 @@ ghost use Rattle.settlement.specs.Result.{identifierCells, payeeCells, periodCe
 ghost use Rattle.groups.specs.Groups.{maybeIdentifierOf};
 ghost use Rattle.payment.specs.Walks.{meansOf};
 ghost use Rattle.totals.specs.Reading.{totalsOf};
-ghost use Rattle.children.specs.States.{maybePayeeOf, maybePeriodOf};
-use children::MaybePayee;
-use children::MaybePeriod;
+ghost use Rattle.steps.specs.States.{maybePayeeOf, maybePeriodOf};
 use groups::MaybeIdentifier;
 use payment::Means;
 use report::amount_hundredths;
@@ -18,6 +16,8 @@ use report::place_start;
 use report::put_row;
 use report::text_length;
 use report::text_start;
+use steps::MaybePayee;
+use steps::MaybePeriod;
 use totals::Totals;
 
 // An identifier and its scheme.

@@ -5,7 +5,7 @@ use native.Mathlib.Omega.{arith}
 use borrow.Author.Needs.{needs}
 use lib.ListN.{length}
 use Rattle.values.specs.Sites.{lentWith}
-use Rattle.children.specs.States.{state}
+use Rattle.steps.specs.States.{state}
 use Rattle.children.proofs.Counting.{counted-within}
 use Rattle.children.proofs.Reaching.{Reached, reached-start, reached-step, reached-zero, reached-out}
 use Rattle.children.proofs.walk.read_children.Statement.{statement}

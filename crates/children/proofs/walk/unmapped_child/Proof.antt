@@ -1,7 +1,7 @@
 use mathlib.Core.Path.{refl}
 use borrow.Author.Needs.{needs}
-use Rattle.children.proofs.Stepping.{lanes, none-held, none-said}
-use Rattle.children.specs.Steps.{actBy, stepBy}
+use Rattle.steps.proofs.Stepping.{lanes, none-held, none-said}
+use Rattle.steps.specs.Steps.{actBy, stepBy}
 use Rattle.settlement.specs.Kinds.{sameKind, home}
 use Rattle.settlement.specs.Settlement.{own}
 use Rattle.unmapped.proofs.Notings.{notings-one}

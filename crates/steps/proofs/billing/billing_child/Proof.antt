@@ -1,6 +1,6 @@
 use borrow.Author.Needs.{needs}
-use Rattle.children.proofs.billing.billing_child.Statement.{statement}
-use Rattle.children.proofs.billing.billing_child.Tie as tie
+use Rattle.steps.proofs.billing.billing_child.Statement.{statement}
+use Rattle.steps.proofs.billing.billing_child.Tie as tie
 
 returns : tie.Need-returns
 returns c rules currency identifier p t m = rw (c .before .before .before .enum-told .given .1) (c .before .period .ensures _ _ _ p t m _ _)

@@ -1,12 +1,12 @@
 use mathlib.Core.Path.{refl}
 use borrow.Author.Needs.{needs}
-use Rattle.children.proofs.Identifier.{totals-alike, totals-holds}
-use Rattle.children.proofs.Stepping.{lanes, none-held}
-use Rattle.children.specs.Steps.{actBy, stepBy}
+use Rattle.steps.proofs.Identifier.{totals-alike, totals-holds}
+use Rattle.steps.proofs.Stepping.{lanes, none-held}
+use Rattle.steps.specs.Steps.{actBy, stepBy}
 use Rattle.settlement.specs.Kinds.{sameKind, home}
 use Rattle.settlement.specs.Settlement.{own, seen, soFar}
-use Rattle.children.proofs.walk.summation.Statement.{statement}
-use Rattle.children.proofs.walk.summation.Tie as tie
+use Rattle.steps.proofs.summing.summation.Statement.{statement}
+use Rattle.steps.proofs.summing.summation.Tie as tie
 
 returns : tie.Need-returns
 unfolding stepBy actBy own seen soFar home sameKind

@@ -4,10 +4,10 @@ use borrow.Author.Needs.{needs}
 use Rattle.settlement.specs.Kinds.{sameKind, home}
 use Rattle.settlement.specs.Settlement.{quiet, own}
 use Rattle.text.specs.Utf8.{bytes, encode}
-use Rattle.children.specs.Steps.{actBy, stepBy}
-use Rattle.children.proofs.Stepping.{lanes, none-held, none-said, none-noted}
-use Rattle.children.proofs.plain.plain_child.Statement.{statement}
-use Rattle.children.proofs.plain.plain_child.Tie as tie
+use Rattle.steps.specs.Steps.{actBy, stepBy}
+use Rattle.steps.proofs.Stepping.{lanes, none-held, none-said, none-noted}
+use Rattle.steps.proofs.plain.plain_child.Statement.{statement}
+use Rattle.steps.proofs.plain.plain_child.Tie as tie
 
 returns : tie.Need-returns
 unfolding stepBy actBy own quiet home sameKind

@@ -7,21 +7,27 @@ ghost use Rattle.settlement.specs.Kinds.{period, paymentTerms, paymentMeans};
 ghost use Rattle.settlement.specs.Values.{Lent};
 ghost use Rattle.element.specs.LinkDoc.{linkDoc};
 ghost use Rattle.values.specs.Sites.{lentWith};
-ghost use Rattle.children.specs.Kinds.{billingIs};
-ghost use Rattle.children.specs.States.{state};
-ghost use Rattle.children.specs.Steps.{Stepped};
-ghost use Rattle.children.specs.declared.state.MaybeTotals.{MaybeTotals};
-ghost use Rattle.children.specs.declared.state.Plain.{Plain};
-ghost use Rattle.children.specs.declared.state.Tally.{Tally};
-use crate::kinds::BillingKind;
+ghost use Rattle.steps.specs.Kinds.{billingIs};
+ghost use Rattle.steps.specs.States.{state};
+ghost use Rattle.steps.specs.Steps.{Stepped};
+ghost use Rattle.steps.specs.declared.state.MaybeTotals.{MaybeTotals};
+ghost use Rattle.steps.specs.declared.state.Plain.{Plain};
+ghost use Rattle.steps.specs.declared.state.Tally.{Tally};
 use crate::state::Billing;
 use crate::state::MaybePeriod;
 use means::Next;
 
+// A child that says when or how is paid.
+pub enum BillingKind {
+    Period,
+    PaymentTerms,
+    PaymentMeans,
+}
+
 // What was said so far, and where the next rows go.
-pub(crate) struct Billed {
-    pub(crate) billing: Billing,
-    pub(crate) next: Next,
+pub struct Billed {
+    pub billing: Billing,
+    pub next: Next,
 }
 
 // BG-14: the billing period that element c is.
@@ -121,7 +127,7 @@ fn payment_means(
 }
 
 // What element c says of when or how is paid, by its kind.
-pub(crate) fn billing_child(
+pub fn billing_child(
     table: &[u32],
     text: &[u8],
     links: &[u16],

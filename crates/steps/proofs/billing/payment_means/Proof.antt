@@ -1,11 +1,11 @@
 use mathlib.Core.Path.{refl}
 use borrow.Author.Needs.{needs}
-use Rattle.children.proofs.Stepping.{lanes}
-use Rattle.children.specs.Steps.{actBy, stepBy}
+use Rattle.steps.proofs.Stepping.{lanes}
+use Rattle.steps.specs.Steps.{actBy, stepBy}
 use Rattle.settlement.specs.Kinds.{sameKind, home}
 use Rattle.settlement.specs.Settlement.{own}
-use Rattle.children.proofs.billing.payment_means.Statement.{statement}
-use Rattle.children.proofs.billing.payment_means.Tie as tie
+use Rattle.steps.proofs.billing.payment_means.Statement.{statement}
+use Rattle.steps.proofs.billing.payment_means.Tie as tie
 
 returns : tie.Need-returns
 unfolding stepBy actBy own home sameKind

@@ -10,18 +10,18 @@ use Rattle.groups.specs.Taxes.{vatStateOf}
 use Rattle.payment.specs.Walks.{paymentOf}
 use Rattle.totals.specs.Reading.{totalsOf}
 use Rattle.means.specs.declared.Next.{Next}
-use Rattle.children.specs.declared.state.Plain.{Plain}
-use Rattle.children.specs.declared.state.Tally.{Tally}
-use Rattle.children.specs.declared.state.Billing.{Billing}
-use Rattle.children.specs.declared.state.State as Code
-use Rattle.children.specs.declared.state.Reference.{Reference}
-use Rattle.children.specs.declared.state.Reference.the-variants as Reference
-use Rattle.children.specs.declared.state.MaybePayee.{MaybePayee}
-use Rattle.children.specs.declared.state.MaybePayee.the-variants as MaybePayee
-use Rattle.children.specs.declared.state.MaybePeriod.{MaybePeriod}
-use Rattle.children.specs.declared.state.MaybePeriod.the-variants as MaybePeriod
-use Rattle.children.specs.declared.state.MaybeTotals.{MaybeTotals}
-use Rattle.children.specs.declared.state.MaybeTotals.the-variants as MaybeTotals
+use Rattle.steps.specs.declared.state.Plain.{Plain}
+use Rattle.steps.specs.declared.state.Tally.{Tally}
+use Rattle.steps.specs.declared.state.Billing.{Billing}
+use Rattle.steps.specs.declared.state.State as Code
+use Rattle.steps.specs.declared.state.Reference.{Reference}
+use Rattle.steps.specs.declared.state.Reference.the-variants as Reference
+use Rattle.steps.specs.declared.state.MaybePayee.{MaybePayee}
+use Rattle.steps.specs.declared.state.MaybePayee.the-variants as MaybePayee
+use Rattle.steps.specs.declared.state.MaybePeriod.{MaybePeriod}
+use Rattle.steps.specs.declared.state.MaybePeriod.the-variants as MaybePeriod
+use Rattle.steps.specs.declared.state.MaybeTotals.{MaybeTotals}
+use Rattle.steps.specs.declared.state.MaybeTotals.the-variants as MaybeTotals
 
 -- BT-83, where a reference was met
 abbrev pub referenceOf : Reference → Option (Option Place)

@@ -1,5 +1,5 @@
 // The reading so far: what each kind of child of a settlement has made, and where the next rows go.
-ghost use Rattle.children.specs.States.{Fresh};
+ghost use Rattle.steps.specs.States.{Fresh};
 use groups::Payee;
 use groups::PaymentTerms;
 use groups::Period;
@@ -74,7 +74,7 @@ pub struct State {
 }
 
 // Before the first child.
-pub(crate) fn blank() -> State
+pub fn blank() -> State
     ensures { λ r. ⌜ Fresh r ⌝ }
 {
     State {
