@@ -1,8 +1,9 @@
-// UTF-8 (RFC 3629): the character at a place, and whether bytes are UTF-8 throughout.
+// UTF-8 (RFC 3629): the character at a place, where characters start, and whether bytes are UTF-8
+// throughout.
 ghost use mathlib.Core.Path.{_≡_};
 ghost use Prim.Native.Nat.{_+_, _*_, _%_, _<_};
 ghost use lib.ListN.{length, getD, drop};
-ghost use Rattle.characters.specs.Characters.{isScalar, tail, scalar, two, three, four, charOf, front, size, good, ascii, utf8};
+ghost use Rattle.characters.specs.Characters.{isScalar, tail, boundary, scalar, two, three, four, charOf, front, size, good, ascii, utf8};
 use crate::range::is_within;
 
 // What stands at the front of bytes: a character's code point and the number of its bytes, or
@@ -54,6 +55,14 @@ fn is_tail(b: u32) -> bool
     ensures { λ r. ⌜ r ≡ tail b ⌝ }
 {
     is_within(b, 0x80, 0xBF)
+}
+
+// Whether no byte at i continues a character, so that a text in UTF-8 can be cut there. Past the end
+// none does.
+pub fn is_boundary(s: &[u8], i: usize) -> bool
+    ensures { λ r. ⌜ r ≡ boundary (now (s .entry)) i ⌝ }
+{
+    !is_tail(byte_at(s, i))
 }
 
 // The x bits so far, joined with those of a continuation byte.
