@@ -148,6 +148,13 @@ def cases():
             for place, length in ((36, 1), (37, 1), (38, 1), (37, 2), (36, 3), (35, 2)):
                 table = changed(root + child + child, record, start, place)
                 yield "table", changed(table, record, start + 1, length), text
+    # a text that is UTF-8, cut inside characters of two, three and four bytes, also with length 0
+    whole = SETTLEMENT + b"IDDE1\xc3\xa4\xe2\x82\xac\xf0\x9f\x98\x80"
+    for start in (2, 4):
+        for place in range(36, 46):
+            for length in range(min(5, 46 - place)):
+                table = changed(root + child + child, 2, start, place)
+                yield "table", changed(table, 2, start + 1, length), whole
     for name in (b"", b"ApplicableHeaderTradeSettlemenT", SETTLEMENT[:-1], SETTLEMENT + b"s", b"CrossIndustryInvoice"):
         yield "table", [1, 0, 0, len(name), 0, 0], name
     # several refusals at once: the first in order counts, not the first in the table

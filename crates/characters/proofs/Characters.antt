@@ -7,16 +7,16 @@ use native.Mathlib.Omega.{arith}
 use native.Mathlib.Numerals.{add-one}
 use native.Mathlib.Nat.{add-zero}
 use native.Mathlib.Decide.{decLt}
-use borrow.Author.Tests.{leb-true, ltb-true, lt-ltb}
-use lib.Dec.{ltb, leb}
-use lib.ListN.{length, getD, drop, length-drop, drop-of-length-le, List·getD-eq-default}
+use borrow.Author.Tests.{leb-true, ltb-true, lt-ltb, le-leb}
+use lib.Dec.{ltb, leb, eqb}
+use lib.ListN.{length, getD, take, drop, length-drop, drop-of-length-le, List·getD-eq-default}
 use lib.Seq.{drop-cons, drop-drop, getD-drop}
 use Rattle.text.specs.Range.{within}
 use Rattle.text.proofs.Bools.{both}
 use Rattle.text.proofs.Ranges.{within-range, within-yes}
 use Rattle.characters.specs.declared.utf8.Char.{Char}
 use Rattle.characters.specs.declared.utf8.Char.the-variants.{Bad, Point}
-use Rattle.characters.specs.Characters.{isScalar, tail, scalar, two, three, four, charOf, front, size, chars, good, allGood, utf8, ascii}
+use Rattle.characters.specs.Characters.{isScalar, tail, scalar, two, three, four, charOf, front, size, chars, good, allGood, utf8, ascii, plain, step}
 
 not-bad : {c m : ℕ} → Bad ≡ Point c m → ⊥
 not-bad e = let w : _≡_ {A = ℕ} 0 1 = cc in omega arith
@@ -183,6 +183,57 @@ ascii-good (b ∷ s) e =
 pub ascii-utf8 : (s : List ℕ) → (b : Bool) → b ≡ ascii s → b ≡ true → true ≡ utf8 s
 unfolding utf8
 ascii-utf8 s b q f = sym (ascii-good s (sym q ∙ f))
+
+-- a block of ASCII is passed at once
+ascii-pass : (k : ℕ) (s : List ℕ) → k ≤ length s → ascii (take k s) ≡ true → allGood (chars 0 s) ≡ allGood (chars 0 (drop k s))
+unfolding ascii chars allGood
+ascii-pass zero s h e = refl
+ascii-pass (suc k) [] h e = refl
+ascii-pass (suc k) (b ∷ s) h e =
+    let p = both (ltb b 0x80) (ascii (take k s)) e in
+    rw (front-one (b ∷ s) (omega (arith, ltb-true b 0x80 (p .0)))) (ascii-pass k s (omega arith) (p .1))
+
+pub plain-is : (s : List ℕ) (i : ℕ) → eqb (i % 16) 0 ≡ true → 16 ≤ length s - i → (b : Bool) → b ≡ ascii (take (i + 16 - i) (drop i s)) → b ≡ plain s i
+unfolding plain
+plain-is s i e h b q =
+    let m : i + 16 - i ≡ 16 = omega arith in
+    q ∙ rw (m, e, le-leb 16 (length s - i) h)
+
+plain-passes : (s : List ℕ) (i : ℕ) → plain s i ≡ true → (i + 16 ≤ length s) × (goodFrom s i ≡ goodFrom s (i + 16))
+unfolding plain
+plain-passes s i e =
+    let k = both (eqb (i % 16) 0) (leb 16 (length s - i) && ascii (take 16 (drop i s))) e in
+    let k′ = both (leb 16 (length s - i)) (ascii (take 16 (drop i s))) (k .1) in
+    let l = leb-true 16 (length s - i) (k′ .0) in
+    (omega arith, ascii-pass 16 (drop i s) (omega (arith, length-drop i s)) (k′ .1) ∙ ap (λ (r : List ℕ). allGood (chars 0 r)) (drop-drop 16 i s))
+
+-- a step over characters at i, by n octets
+Stepped : List ℕ → ℕ → ℕ → Type 0
+Stepped s i n = (i + n ≤ length s) × ((n ≡ 0 → goodFrom s i ≡ false) × ((n ≡ 0 → ⊥) → goodFrom s i ≡ goodFrom s (i + n)))
+
+stepped : (s : List ℕ) (i : ℕ) → i < length s → (n : ℕ) → n ≡ step s i → Stepped s i n
+unfolding Stepped step allGood
+stepped s i h n en = go (plain s i) refl (front (drop i s)) refl en
+  where
+    go : (p : Bool) → plain s i ≡ p → (x : Char) → x ≡ front (drop i s) → n ≡ cond p 16 (cond (good x) (size x) 0) → Stepped s i n
+    go true e x ex q = let k = plain-passes s i e in (omega arith, (λ z. absurd (omega arith), λ z. rw q (k .1)))
+    go false e Bad ex q = (omega arith, (λ z. ap allGood (turn-chars s i h Bad ex 1 refl), λ z. absurd (z q)))
+    go false e (Point c m) ex q =
+        let k = turn s i h (Point c m) ex n q in
+        (k .1, (λ z. absurd (omega arith), λ z. ap allGood (turn-chars s i h (Point c m) ex n q)))
+
+module _ (s : List ℕ) (i : ℕ) (h : i < length s) (n : ℕ) (en : n ≡ step s i) where
+  pub step-fits : i + n ≤ length s
+  unfolding Stepped
+  step-fits = stepped s i h n en .0
+
+  pub step-stop : utf8 s ≡ goodFrom s i → n ≡ 0 → false ≡ utf8 s
+  unfolding Stepped
+  step-stop e z = sym (e ∙ stepped s i h n en .1 .0 z)
+
+  pub step-on : utf8 s ≡ goodFrom s i → (n ≡ 0 → ⊥) → utf8 s ≡ goodFrom s (i + n)
+  unfolding Stepped
+  step-on e z = e ∙ stepped s i h n en .1 .1 z
 
 -- of two limits in a row the lower one tells
 capped : (p q r : Bool) → (q ≡ true → p ≡ true) → (p && (q && r)) ≡ (q && r)

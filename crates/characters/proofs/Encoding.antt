@@ -86,7 +86,7 @@ module _ (c : ℕ) (e : isScalar c ≡ true) where
       rw (within-above a 0 0x7F (omega arith), within-above a 0xC0 0xDF (omega arith), within-above a 0xE0 0xEF (omega arith), within-yes a 0xF0 0xF7 (omega arith) (omega arith), tail-yes (c / 4096 % 64) (omega arith), tail-yes (c / 64 % 64) (omega arith), tail-yes (c % 64) (omega arith), v)
       (scalar-yes 0x10000 c 4 h e)
 
-  front-encode : (s : List ℕ) → front (encode c ++ s) ≡ Point c (length (encode c))
+  pub front-encode : (s : List ℕ) → front (encode c ++ s) ≡ Point c (length (encode c))
   unfolding front encode
   front-encode s =
       elim (decLe c 0x7F) [

@@ -9,4 +9,5 @@ mod white_space;
 
 pub use trimming::trim;
 pub use trimming::trimmed_text;
+pub use utf8::is_boundary;
 pub use utf8::is_utf8;

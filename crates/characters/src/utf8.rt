@@ -1,8 +1,9 @@
-// UTF-8 (RFC 3629): the character at a place, and whether bytes are UTF-8 throughout.
+// UTF-8 (RFC 3629): the character at a place, where characters start, and whether bytes are UTF-8
+// throughout.
 ghost use mathlib.Core.Path.{_≡_};
 ghost use Prim.Native.Nat.{_+_, _*_, _%_, _<_};
 ghost use lib.ListN.{length, getD, drop};
-ghost use Rattle.characters.specs.Characters.{isScalar, tail, scalar, two, three, four, charOf, front, size, good, ascii, utf8};
+ghost use Rattle.characters.specs.Characters.{isScalar, tail, boundary, scalar, two, three, four, charOf, front, size, good, ascii, plain, step, utf8};
 use crate::range::is_within;
 
 // What stands at the front of bytes: a character's code point and the number of its bytes, or
@@ -54,6 +55,14 @@ fn is_tail(b: u32) -> bool
     ensures { λ r. ⌜ r ≡ tail b ⌝ }
 {
     is_within(b, 0x80, 0xBF)
+}
+
+// Whether no byte at i continues a character, so that a text in UTF-8 can be cut there. Past the end
+// none does.
+pub fn is_boundary(s: &[u8], i: usize) -> bool
+    ensures { λ r. ⌜ r ≡ boundary (now (s .entry)) i ⌝ }
+{
+    !is_tail(byte_at(s, i))
 }
 
 // The x bits so far, joined with those of a continuation byte.
@@ -174,18 +183,48 @@ fn is_ascii(s: &[u8]) -> bool
     greatest < 0x80
 }
 
-// Whether s is UTF-8, character by character.
+// Whether a block of sixteen bytes starts at i and is ASCII.
+fn is_plain(s: &[u8], i: usize) -> bool
+    requires { ⌜ i < length (now s) ⌝ }
+    ensures { λ r. ⌜ r ≡ plain (now (s .entry)) i ⌝ }
+{
+    let starts = i % 16 == 0;
+    if starts {
+        let left = s.len() - i;
+        if 16 <= left {
+            let end = i + 16;
+            return is_ascii(&s[i..end]);
+        }
+    }
+    false
+}
+
+// How many bytes to pass at i: a block of ASCII or a character, and 0 where there is neither.
+fn step_at(s: &[u8], i: usize) -> usize
+    requires { ⌜ i < length (now s) ⌝ }
+    ensures { λ n. ⌜ n ≡ step (now (s .entry)) i ⌝ }
+{
+    if is_plain(s, i) {
+        return 16;
+    }
+    let x = char_at(s, i);
+    if is_good(x) {
+        return size_of(x);
+    }
+    0
+}
+
+// Whether s is UTF-8, character by character, or many bytes at a time where they are ASCII.
 fn is_utf8_each(s: &[u8]) -> bool
     ensures { λ r. ⌜ r ≡ utf8 (now (s .entry)) ⌝ }
 {
     let mut i = 0;
     while i < s.len() {
-        let x = char_at(s, i);
-        if is_good(x) {
-            i += size_of(x);
-        } else {
+        let n = step_at(s, i);
+        if n == 0 {
             return false;
         }
+        i += n;
     }
     true
 }

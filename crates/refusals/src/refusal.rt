@@ -1,7 +1,9 @@
 // The refusals 3 to 9 of a table (document 01, "Where each refusal is checked"), in their order,
 // each with the first offending record.
 ghost use mathlib.Core.Path.{_≡_};
-ghost use Prim.Native.Nat.{_-_};
+ghost use mathlib.Core.Bool.{true, _&&_};
+ghost use Prim.Native.Nat.{_+_, _-_};
+ghost use Rattle.characters.specs.Characters.{boundary, utf8};
 ghost use Rattle.table.specs.Table.{records, firstFrom};
 ghost use Rattle.refusals.specs.Refusals.{notRoot, misplaced, beyond, outside, notUtf8, recordRefusal, sizeRefusal, refusal};
 ghost use Rattle.refusals.specs.Verdicts.{foundAt, verdict};
@@ -94,6 +96,34 @@ fn is_not_utf8(table: &[u32], text: &[u8], j: usize) -> bool
     true
 }
 
+// Whether the text has boundaries of characters at both ends of len bytes from start on.
+fn is_whole(text: &[u8], start: u32, len: u32) -> bool
+    ensures { λ b. ⌜ b ≡ (boundary (now (text .entry)) start && boundary (now (text .entry)) (start + len)) ⌝ }
+{
+    if characters::is_boundary(text, start as usize) {
+        return characters::is_boundary(text, start as usize + len as usize);
+    }
+    false
+}
+
+// Whether the name or the text of record j is not UTF-8, where the whole text is. What has boundaries
+// of characters at both ends then is, without a look at its bytes.
+fn is_cut(table: &[u32], text: &[u8], j: usize) -> bool
+    requires { ⌜ utf8 (now text) ≡ true ⌝ }
+    ensures { λ b. ⌜ b ≡ notUtf8 (now (table .entry)) (now (text .entry)) j ⌝ }
+{
+    let name_start = field_of(table, j, Field::NameStart);
+    let name_len = field_of(table, j, Field::NameLength);
+    if is_whole(text, name_start, name_len) {
+        let text_start = field_of(table, j, Field::TextStart);
+        let text_len = field_of(table, j, Field::TextLength);
+        if is_whole(text, text_start, text_len) {
+            return false;
+        }
+    }
+    is_not_utf8(table, text, j)
+}
+
 // The first later record that is misplaced.
 fn first_misplaced(table: &[u32]) -> Offender
     ensures { λ o. ⌜ foundAt o ≡ firstFrom (misplaced (now (table .entry))) 1 (records (now (table .entry)) - 1) ⌝ }
@@ -124,8 +154,24 @@ fn first_outside(table: &[u32], text: &[u8]) -> Offender
     Offender::Nowhere
 }
 
-// The first record with a name or a text that is not UTF-8.
-fn first_not_utf8(table: &[u32], text: &[u8]) -> Offender
+// The first record with a name or a text that is not UTF-8, where the whole text is.
+fn first_cut(table: &[u32], text: &[u8]) -> Offender
+    requires { ⌜ utf8 (now text) ≡ true ⌝ }
+    ensures { λ o. ⌜ foundAt o ≡ firstFrom (notUtf8 (now (table .entry)) (now (text .entry))) 0 (records (now (table .entry)) - 0) ⌝ }
+{
+    let n = table.len() / 6;
+    let mut j = 0;
+    while j < n {
+        if is_cut(table, text, j) {
+            return Offender::At(j);
+        }
+        j += 1;
+    }
+    Offender::Nowhere
+}
+
+// The first record with a name or a text that is not UTF-8, each read by itself.
+fn first_not_utf8_each(table: &[u32], text: &[u8]) -> Offender
     ensures { λ o. ⌜ foundAt o ≡ firstFrom (notUtf8 (now (table .entry)) (now (text .entry))) 0 (records (now (table .entry)) - 0) ⌝ }
 {
     let n = table.len() / 6;
@@ -137,6 +183,17 @@ fn first_not_utf8(table: &[u32], text: &[u8]) -> Offender
         j += 1;
     }
     Offender::Nowhere
+}
+
+// The first record with a name or a text that is not UTF-8. One pass over a text that is UTF-8, as most
+// are, spares reading each name and text by itself.
+fn first_not_utf8(table: &[u32], text: &[u8]) -> Offender
+    ensures { λ o. ⌜ foundAt o ≡ firstFrom (notUtf8 (now (table .entry)) (now (text .entry))) 0 (records (now (table .entry)) - 0) ⌝ }
+{
+    if characters::is_utf8(text) {
+        return first_cut(table, text);
+    }
+    first_not_utf8_each(table, text)
 }
 
 // The refusals 6 to 9, each over all records before the next.

@@ -4,7 +4,7 @@ use native.Mathlib.Omega.{arith}
 use borrow.Author.Needs.{needs}
 use lib.ListN.{length}
 use Rattle.characters.specs.Characters.{utf8}
-use Rattle.characters.proofs.Characters.{goodFrom, good-start, good-end, good-stop, good-on, turn}
+use Rattle.characters.proofs.Characters.{goodFrom, good-start, good-end, step-fits, step-stop, step-on}
 use Rattle.characters.proofs.utf8.is_utf8_each.Statement.{statement}
 use Rattle.characters.proofs.utf8.is_utf8_each.Tie as tie
 
@@ -17,26 +17,20 @@ abbrev μ-loop : tie.MeasureT-loop
 loop-holds : tie.Need-loop-holds Inv-loop μ-loop
 loop-holds c = (omega arith, good-start _)
 
-char-at-requires : tie.Need-char-at-requires Inv-loop μ-loop
-char-at-requires c κs = search needs
-
-is-good-requires : tie.Need-is-good-requires Inv-loop μ-loop
-is-good-requires c κs = search needs
-
-size-of-requires : tie.Need-size-of-requires Inv-loop μ-loop
-size-of-requires c κs = search needs
-
-add-i : tie.Need-add-i Inv-loop μ-loop
-add-i c = omega (arith, turn _ _ (c .before .before .before .before .loop-test .taken) _ (c .before .before .before .char-at .ensures) _ (c .size-of .ensures))
-
-loop-less : tie.Need-loop-less Inv-loop μ-loop
-loop-less c = omega (arith, turn _ _ (c .before .before .before .before .loop-test .taken) _ (c .before .before .before .char-at .ensures) _ (c .size-of .ensures))
-
-loop-again : tie.Need-loop-again Inv-loop μ-loop
-loop-again c = (omega (arith, turn _ _ (c .before .before .before .before .loop-test .taken) _ (c .before .before .before .char-at .ensures) _ (c .size-of .ensures)), search good-on)
+step-at-requires : tie.Need-step-at-requires Inv-loop μ-loop
+step-at-requires c κs = search needs
 
 returns : tie.Need-returns Inv-loop μ-loop
-returns c = search good-stop
+returns c = search step-stop
+
+add-i : tie.Need-add-i Inv-loop μ-loop
+add-i c = omega (arith, step-fits _ _ (c .before .before .loop-test .taken) _ (c .before .step-at .ensures))
+
+loop-less : tie.Need-loop-less Inv-loop μ-loop
+loop-less c = omega (arith, step-fits _ _ (c .before .before .loop-test .taken) _ (c .before .step-at .ensures))
+
+loop-again : tie.Need-loop-again Inv-loop μ-loop
+loop-again c = (omega (arith, step-fits _ _ (c .before .before .loop-test .taken) _ (c .before .step-at .ensures)), search step-on)
 
 returns-2 : tie.Need-returns-2 Inv-loop μ-loop
 returns-2 c = search good-end
@@ -48,11 +42,9 @@ is-utf8-each-spec =
     Inv-loop
     μ-loop
     loop-holds
-    char-at-requires
-    is-good-requires
-    size-of-requires
+    step-at-requires
+    returns
     add-i
     loop-less
     loop-again
-    returns
     returns-2)

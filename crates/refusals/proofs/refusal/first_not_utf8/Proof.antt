@@ -1,50 +1,24 @@
-use mathlib.Core.Path.{_≡_, refl}
-use Prim.Native.Nat.{_-_}
-use native.Mathlib.Omega.{arith}
 use borrow.Author.Needs.{needs}
-use Rattle.table.specs.Table.{records, firstFrom}
-use Rattle.table.proofs.Scans.{scan-on, scan-hit, scan-end}
-use Rattle.refusals.specs.Refusals.{notUtf8}
+use Rattle.text.proofs.Bools.{passed}
 use Rattle.refusals.proofs.refusal.first_not_utf8.Statement.{statement}
 use Rattle.refusals.proofs.refusal.first_not_utf8.Tie as tie
 
-abbrev Inv-loop : tie.InvT-loop
-Inv-loop table text n j₀ j = firstFrom (notUtf8 table text) 0 (records table - 0) ≡ firstFrom (notUtf8 table text) j (n - j)
+is-utf8-requires : tie.Need-is-utf8-requires
+is-utf8-requires c κs = search needs
 
-abbrev μ-loop : tie.MeasureT-loop
-μ-loop table text n j₀ j = n - j
+first-cut-requires : tie.Need-first-cut-requires
+first-cut-requires c κs = search passed
 
-loop-holds : tie.Need-loop-holds Inv-loop μ-loop
-loop-holds c = refl
+returns : tie.Need-returns
+returns c = search needs
 
-is-not-utf8-requires : tie.Need-is-not-utf8-requires Inv-loop μ-loop
-is-not-utf8-requires c κs = search needs
+first-not-utf8-each-requires : tie.Need-first-not-utf8-each-requires
+first-not-utf8-each-requires c κs = search needs
 
-returns : tie.Need-returns Inv-loop μ-loop
-returns c = search scan-hit
-
-add-j : tie.Need-add-j Inv-loop μ-loop
-add-j c = omega arith
-
-loop-less : tie.Need-loop-less Inv-loop μ-loop
-loop-less c = omega arith
-
-loop-again : tie.Need-loop-again Inv-loop μ-loop
-loop-again c = search scan-on
-
-returns-2 : tie.Need-returns-2 Inv-loop μ-loop
-returns-2 c = search scan-end
+returns-2 : tie.Need-returns-2
+returns-2 c = search needs
 
 pub first-not-utf8-spec : {M : Type 1} → statement M
 first-not-utf8-spec =
     tie.close
-    (tie.spec
-    Inv-loop
-    μ-loop
-    loop-holds
-    is-not-utf8-requires
-    returns
-    add-j
-    loop-less
-    loop-again
-    returns-2)
+    (tie.spec is-utf8-requires first-cut-requires returns first-not-utf8-each-requires returns-2)
