@@ -2,6 +2,7 @@
 ghost use mathlib.Core.Path.{_≡_};
 ghost use Prim.Native.Nat.{_*_, _+_, _<_};
 ghost use lib.ListN.{getD};
+ghost use Rattle.text.specs.Span.{clipped};
 ghost use Rattle.table.specs.Table.{records, cell, nameOf, textOf, named, kin, kinNamed, found, firstNamed};
 ghost use Rattle.table.specs.Fields.{place};
 
@@ -67,22 +68,34 @@ pub fn field_at(table: &[u32], r: usize, f: Field) -> usize
     wide(field_of(table, r, f))
 }
 
+// The bytes at the place whose start and length are number k of record r and the next, none where the
+// table does not have both: one look at its length does for the two.
+fn bytes_at<'a, 'b>(table: &'b [u32], text: &'a [u8], r: usize, k: usize) -> &'a [u8]
+    requires { ⌜ k < 6 ⌝ }
+    ensures { λ s. ⌜ now s ≡ clipped (now (text .entry)) (cell (now (table .entry)) r k) (cell (now (table .entry)) r (k + 1)) ⌝ }
+{
+    if r < table.len() {
+        let start = r * 6 + k;
+        let len = start + 1;
+        if len < table.len() {
+            return text::clip(text, wide(table[start]), wide(table[len]));
+        }
+    }
+    text::clip(text, 0, 0)
+}
+
 // The name of record r.
 pub fn name<'a, 'b>(table: &'b [u32], text: &'a [u8], r: usize) -> &'a [u8]
     ensures { λ s. ⌜ now s ≡ nameOf (now (table .entry)) (now (text .entry)) r ⌝ }
 {
-    let start = field_at(table, r, Field::NameStart);
-    let len = field_at(table, r, Field::NameLength);
-    text::clip(text, start, len)
+    bytes_at(table, text, r, 2)
 }
 
 // The text of record r: an attribute's value, or all direct text of an element, joined.
 pub fn joined_text<'a, 'b>(table: &'b [u32], text: &'a [u8], r: usize) -> &'a [u8]
     ensures { λ s. ⌜ now s ≡ textOf (now (table .entry)) (now (text .entry)) r ⌝ }
 {
-    let start = field_at(table, r, Field::TextStart);
-    let len = field_at(table, r, Field::TextLength);
-    text::clip(text, start, len)
+    bytes_at(table, text, r, 4)
 }
 
 // Whether record r has this name.
