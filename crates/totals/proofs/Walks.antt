@@ -9,7 +9,7 @@ use lib.ListN.{length}
 use Rattle.text.specs.Utf8.{bytes}
 use Rattle.amount.specs.declared.amount.InvoiceAmount as Money
 use Rattle.links.specs.Links.{link, chain}
-use Rattle.links.proofs.Chains.{fold-start, fold-turn, fold-zero, fold-out}
+use Rattle.links.proofs.Chains.{chain-start, chain-turn, fold-start, fold-turn, fold-zero, fold-out}
 use Rattle.report.specs.Rows.{Place}
 use Rattle.report.specs.Encoding.{heldRow}
 use Rattle.report.proofs.RowsOf.{rows-none}
@@ -25,10 +25,13 @@ use Rattle.values.proofs.Telling.{said-none, said-then}
 use Rattle.unmapped.specs.Acted.{Acted}
 use Rattle.unmapped.proofs.Notings.{notings-none, notings-then}
 use Rattle.totals.specs.State.{sumsOf, unread, amounts, Did}
+use Rattle.totals.specs.Firsts.{firstFor, meeting, summandAt}
 use Rattle.totals.specs.Reading.{lineTotal, taxBasisTotal, grandTotal, duePayable, totalled, duesSaid, Ended, totalsOf}
+use Rattle.totals.specs.declared.firsts.Firsts.{Firsts}
 use Rattle.totals.specs.declared.state.Summing as State
 use Rattle.totals.specs.declared.state.TotalsSaid as Code
 use Rattle.totals.proofs.Steps.{over, tax-over}
+use Rattle.totals.proofs.FirstKids.{Kept, kept-start, kept-turn, summing-at}
 
 -- a child after what was read before it
 module _ (L : Lent) (D : Doc ℕ Place) (cur : Currencies Place) where
@@ -57,32 +60,49 @@ module _ (L : Lent) (D : Doc ℕ Place) (cur : Currencies Place) where
 did-then : (x : List ℕ) (at k : ℕ) (e u : List ℤ) {m b : Summing Place} {s r : State.Summing} {e′ e″ u′ u″ : List ℤ} → Did x m at k e u s e′ u′ → Did x b (s .at) (s .count) e′ u′ r e″ u″ → Did x (over m b) at k e u r e″ u″
 did-then x at k e u {m} {b} p q = record { same = q .same; said = said-then (p .said) (q .said); noted = notings-then x u k (m .strays) (b .strays) (p .noted) (q .noted) }
 
--- some children were read, which made a state; the rest is that of a chain
-pub record Walked (L : Lent) (D : Doc ℕ Place) (cur : Currencies Place) (n : ℕ) (links x : List ℕ) (at k : ℕ) (e u : List ℤ) (left c : ℕ) (s : State.Summing) (e′ u′ : List ℤ) : Type 0 where
+-- some children were read, which made a state, and the first of each name is held; the rest is that of a chain
+pub record Walked (L : Lent) (D : Doc ℕ Place) (cur : Currencies Place) (n : ℕ) (links x : List ℕ) (at k : ℕ) (e u : List ℤ) (left c : ℕ) (s : State.Summing) (f : Firsts) (e′ u′ : List ℤ) : Type 0 where
   pub made : Summing Place
   pub rest : summed L D cur n ≡ foldl (summing L D cur n) made (chain links left c)
   pub did : Did x made at k e u s e′ u′
+  pub kept : Kept D n f (chain links left c)
 
 module _ (L : Lent) (t x links : List ℕ) (cur : Currencies Place) (n at k : ℕ) (e u : List ℤ) where
-  pub walk-start : {s : State.Summing} {c : ℕ} → (sumsOf (s .sums) ≡ unread) × (s .at ≡ at) × (s .count ≡ k) → c ≡ link links n 0 → Walked L (linkDoc t x links) cur n links x at k e u (length links / 3) c s e u
+  pub walk-start : {s : State.Summing} {f : Firsts} {c : ℕ} → (sumsOf (s .sums) ≡ unread) × (s .at ≡ at) × (s .count ≡ k) → f ≡ record { allowance = 0; charge = 0; rounding = 0; paid = 0 } → c ≡ link links n 0 → Walked L (linkDoc t x links) cur n links x at k e u (length links / 3) c s f e u
   unfolding summed
-  walk-start {s} {c} p q =
+  walk-start {s} {f} {c} p z q =
       record {
         made = unread;
         rest = fold-start (summing L (linkDoc t x links) cur n) links 0 n c unread q;
         did = record { same = p .0; said = rw (p .1) (said-none e at); noted = rw (p .2) (notings-none x u k) };
+        kept = kept-start (linkDoc t x links) n f (chain links (length links / 3) c) z (chain-start links 0 n c q);
       }
 
-  module _ {left c : ℕ} {s : State.Summing} {e′ u′ : List ℤ} (w : Walked L (linkDoc t x links) cur n links x at k e u left c s e′ u′) where
-    pub walk-turn : {r : State.Summing} {e″ u″ : List ℤ} {d : ℕ} → 0 < left → c ≢ 0 → Did x (summing L (linkDoc t x links) cur n (sumsOf (s .sums)) c) (s .at) (s .count) e′ u′ r e″ u″ → d ≡ link links c 2 → Walked L (linkDoc t x links) cur n links x at k e u (left - 1) d r e″ u″
-    walk-turn {r} {e″} {u″} {d} h z p q =
+  module _ {left c : ℕ} {s : State.Summing} {f : Firsts} {e′ u′ : List ℤ} (w : Walked L (linkDoc t x links) cur n links x at k e u left c s f e′ u′) where
+    -- the child that is read is the next of the chain
+    next-kept : 0 < left → c ≢ 0 → Kept (linkDoc t x links) n f (c ∷ chain links (left - 1) (link links c 2))
+    next-kept h z = subst (Kept (linkDoc t x links) n f) (chain-turn links left c h z) (w .kept)
+
+    walk-did : {r : State.Summing} {e″ u″ : List ℤ} {d : ℕ} {g : Firsts} → 0 < left → c ≢ 0 → Did x (summing L (linkDoc t x links) cur n (sumsOf (s .sums)) c) (s .at) (s .count) e′ u′ r e″ u″ → d ≡ link links c 2 → Kept (linkDoc t x links) n g (chain links (left - 1) d) → Walked L (linkDoc t x links) cur n links x at k e u (left - 1) d r g e″ u″
+    walk-did {r} {e″} {u″} {d} h z p q kept =
         let m = w .made in
         let p′ : Did x (summing L (linkDoc t x links) cur n (amounts m) c) (s .at) (s .count) e′ u′ r e″ u″ = subst (λ (a : Summing Place). Did x (summing L (linkDoc t x links) cur n a c) (s .at) (s .count) e′ u′ r e″ u″) (w .did .same) p in
         record {
           made = summing L (linkDoc t x links) cur n m c;
           rest = fold-turn (summing L (linkDoc t x links) cur n) links (summed L (linkDoc t x links) cur n) m left c (w .rest) h z (summing L (linkDoc t x links) cur n m c) refl d q;
           did = subst (λ (a : Summing Place). Did x a at k e u r e″ u″) (sym (summing-over L (linkDoc t x links) cur n m c)) (did-then x at k e u (w .did) p′);
+          kept = kept;
         }
+
+    pub walk-turn :
+        {j : Sum} {g : Firsts} {i : ℕ} {r : State.Summing} {e″ u″ : List ℤ} {d : ℕ} → 0 < left → c ≢ 0 → j ≡ sumOf (linkDoc t x links) c → g ≡ meeting j c f → i ≡ firstFor j g →
+        Did x (summandAt L (linkDoc t x links) cur j i (sumsOf (s .sums)) c) (s .at) (s .count) e′ u′ r e″ u″ → d ≡ link links c 2 → Walked L (linkDoc t x links) cur n links x at k e u (left - 1) d r g e″ u″
+    walk-turn {j} {g} {i} {r} {e″} {u″} {d} h z p q o did v =
+        let D = linkDoc t x links in
+        let cs = chain links (left - 1) (link links c 2) in
+        let next = next-kept h z in
+        walk-did h z (subst (λ (a : Summing Place). Did x a (s .at) (s .count) e′ u′ r e″ u″) (summing-at L D cur n f c cs next z (sumsOf (s .sums)) p q o) did) v
+        (subst (λ (b : ℕ). Kept D n g (chain links (left - 1) b)) (sym v) (subst (λ (b : Firsts). Kept D n b cs) (sym q) (kept-turn D n f c cs next z j p)))
 
     pub walk-zero : c ≡ 0 → Did x (summed L (linkDoc t x links) cur n) at k e u s e′ u′
     walk-zero z = subst (λ (a : Summing Place). Did x a at k e u s e′ u′) (fold-zero (summing L (linkDoc t x links) cur n) links (summed L (linkDoc t x links) cur n) (w .made) left c (w .rest) z) (w .did)

@@ -1,2 +1,3 @@
 pub mod State
+pub mod Firsts
 pub mod Reading

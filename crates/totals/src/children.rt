@@ -1,13 +1,17 @@
 // The children of a summation, one after the other.
 ghost use mathlib.Core.Path.{_≡_};
 ghost use Rattle.names.specs.declared.parent.Parent.the-variants as ParentOf;
-ghost use Rattle.settlement.specs.Summation.{summing, summed};
+ghost use Rattle.settlement.specs.Summation.{summed};
 ghost use Rattle.settlement.specs.TableDoc.{nameAt};
 ghost use Rattle.unmapped.specs.Noting.{noting, Noted};
 ghost use Rattle.element.specs.LinkDoc.{linkDoc};
 ghost use Rattle.values.specs.Sites.{lentOf};
-ghost use Rattle.totals.specs.State.{sumsOf, unread, Did};
+ghost use Rattle.totals.specs.State.{sumsOf, sumIs, unread, Did};
+ghost use Rattle.totals.specs.Firsts.{summandAt};
 ghost use Rattle.totals.specs.Reading.{currencies};
+use crate::firsts::first_for;
+use crate::firsts::met;
+use crate::firsts::none_met;
 use crate::optional::allowance_total;
 use crate::optional::charge_total;
 use crate::optional::rounding_amount;
@@ -53,7 +57,7 @@ fn noted(table: &[u32], text: &[u8], unmapped: &mut [i64], s: Summing, c: usize)
     }
 }
 
-// The state after child c of a summation.
+// The state after child c of a summation, where element e is the first child of its name.
 fn summand(
     table: &[u32],
     text: &[u8],
@@ -63,29 +67,30 @@ fn summand(
     unmapped: &mut [i64],
     frame: Frame,
     s: Summing,
+    sum: Sum,
+    e: usize,
     c: usize,
 ) -> Summing
-    ensures { λ r. ⌜ Did (now (text .entry)) (summing (lentOf (frame .mode) 0 (now (currency .entry))) (linkDoc (now (table .entry)) (now (text .entry)) (now (links .entry))) (currencies (frame .bt5) (frame .bt6)) (frame .n) (sumsOf (s .sums)) c) (s .at) (s .count) (now (entries .entry)) (now (unmapped .entry)) r (now (entries .exit)) (now (unmapped .exit)) ⌝ }
+    ensures { λ r. ⌜ Did (now (text .entry)) (summandAt (lentOf (frame .mode) 0 (now (currency .entry))) (linkDoc (now (table .entry)) (now (text .entry)) (now (links .entry))) (currencies (frame .bt5) (frame .bt6)) (sumIs sum) e (sumsOf (s .sums)) c) (s .at) (s .count) (now (entries .entry)) (now (unmapped .entry)) r (now (entries .exit)) (now (unmapped .exit)) ⌝ }
 {
     let mode = frame.mode;
     let bt5 = frame.bt5;
     let bt6 = frame.bt6;
-    let n = frame.n;
-    let sum = sum_of(table, text, links, c);
     match sum {
         Sum::Required => s,
         Sum::AllowanceTotal => {
-            allowance_total(table, text, links, mode, currency, entries, s, n)
+            allowance_total(table, text, links, mode, currency, entries, s, e)
         }
-        Sum::ChargeTotal => charge_total(table, text, links, mode, currency, entries, s, n),
+        Sum::ChargeTotal => charge_total(table, text, links, mode, currency, entries, s, e),
         Sum::TaxTotal => tax_total(table, text, links, mode, entries, bt5, bt6, s, c),
-        Sum::Rounding => rounding_amount(table, text, links, mode, currency, entries, s, n),
-        Sum::Prepaid => total_prepaid(table, text, links, mode, currency, entries, s, n),
+        Sum::Rounding => rounding_amount(table, text, links, mode, currency, entries, s, e),
+        Sum::Prepaid => total_prepaid(table, text, links, mode, currency, entries, s, e),
         Sum::Unread => noted(table, text, unmapped, s, c),
     }
 }
 
-// The state after all children of a summation.
+// The state after all children of a summation. The first child of each optional amount's name is
+// remembered, so that no child looks for it.
 pub(crate) fn summed(
     table: &[u32],
     text: &[u8],
@@ -100,13 +105,29 @@ pub(crate) fn summed(
     ensures { λ r. ⌜ Did (now (text .entry)) (summed (lentOf (frame .mode) 0 (now (currency .entry))) (linkDoc (now (table .entry)) (now (text .entry)) (now (links .entry))) (currencies (frame .bt5) (frame .bt6)) (frame .n)) at count (now (entries .entry)) (now (unmapped .entry)) r (now (entries .exit)) (now (unmapped .exit)) ⌝ }
 {
     let mut s = blank(at, count);
+    let mut firsts = none_met();
     let mut c = links::first_of(links, frame.n);
     let mut left = links.len() / 3;
     while 0 < left {
         if c == 0 {
             return s;
         }
-        s = summand(table, text, links, currency, entries, unmapped, frame, s, c);
+        let sum = sum_of(table, text, links, c);
+        firsts = met(firsts, sum, c);
+        let e = first_for(firsts, sum);
+        s = summand(
+            table,
+            text,
+            links,
+            currency,
+            entries,
+            unmapped,
+            frame,
+            s,
+            sum,
+            e,
+            c,
+        );
         c = links::next_of(links, c);
         left -= 1;
     }

@@ -1,6 +1,5 @@
 // The amounts that may be absent and hold the currency of the invoice. Every child of such a name
-// reads the first child of that name again, entry and all.
-ghost use Rattle.text.specs.Utf8.{bytes};
+// reads the first child of that name, element e, again, entry and all.
 ghost use Rattle.names.specs.declared.path.Path.the-variants as PathOf;
 ghost use Rattle.names.specs.declared.term.Term.the-variants as TermOf;
 ghost use Rattle.settlement.specs.Values as reading;
@@ -25,9 +24,9 @@ pub(crate) fn allowance_total(
     currency: &[u8],
     entries: &mut [i64],
     s: Summing,
-    n: usize,
+    e: usize,
 ) -> Summing
-    ensures { λ r. ⌜ Summed (withAllowance (reading.amount mode (now (currency .entry)) (linkDoc (now (table .entry)) (now (text .entry)) (now (links .entry))) (reading.site PathOf.SummationAllowanceTotalAmount TermOf.Bt107) n (bytes "AllowanceTotalAmount")) (sumsOf (s .sums))) s (now (entries .entry)) r (now (entries .exit)) ⌝ }
+    ensures { λ r. ⌜ Summed (withAllowance (reading.amountOf mode (now (currency .entry)) (linkDoc (now (table .entry)) (now (text .entry)) (now (links .entry))) (reading.site PathOf.SummationAllowanceTotalAmount TermOf.Bt107) e) (sumsOf (s .sums))) s (now (entries .entry)) r (now (entries .exit)) ⌝ }
 {
     let site = Site {
         path: Path::SummationAllowanceTotalAmount,
@@ -35,19 +34,7 @@ pub(crate) fn allowance_total(
         index: Index::Absent,
     };
     let at = s.at;
-    let want = b"AllowanceTotalAmount";
-    let read = values::amount(
-        table,
-        text,
-        links,
-        mode,
-        currency,
-        entries,
-        at,
-        site,
-        n,
-        want,
-    );
+    let read = values::amount_of(table, text, links, mode, currency, entries, at, site, e);
     let amount = read.amount;
     Summing {
         sums: with_allowance(s.sums, amount),
@@ -65,9 +52,9 @@ pub(crate) fn charge_total(
     currency: &[u8],
     entries: &mut [i64],
     s: Summing,
-    n: usize,
+    e: usize,
 ) -> Summing
-    ensures { λ r. ⌜ Summed (withCharge (reading.amount mode (now (currency .entry)) (linkDoc (now (table .entry)) (now (text .entry)) (now (links .entry))) (reading.site PathOf.SummationChargeTotalAmount TermOf.Bt108) n (bytes "ChargeTotalAmount")) (sumsOf (s .sums))) s (now (entries .entry)) r (now (entries .exit)) ⌝ }
+    ensures { λ r. ⌜ Summed (withCharge (reading.amountOf mode (now (currency .entry)) (linkDoc (now (table .entry)) (now (text .entry)) (now (links .entry))) (reading.site PathOf.SummationChargeTotalAmount TermOf.Bt108) e) (sumsOf (s .sums))) s (now (entries .entry)) r (now (entries .exit)) ⌝ }
 {
     let site = Site {
         path: Path::SummationChargeTotalAmount,
@@ -75,19 +62,7 @@ pub(crate) fn charge_total(
         index: Index::Absent,
     };
     let at = s.at;
-    let want = b"ChargeTotalAmount";
-    let read = values::amount(
-        table,
-        text,
-        links,
-        mode,
-        currency,
-        entries,
-        at,
-        site,
-        n,
-        want,
-    );
+    let read = values::amount_of(table, text, links, mode, currency, entries, at, site, e);
     let amount = read.amount;
     Summing {
         sums: with_charge(s.sums, amount),
@@ -105,9 +80,9 @@ pub(crate) fn rounding_amount(
     currency: &[u8],
     entries: &mut [i64],
     s: Summing,
-    n: usize,
+    e: usize,
 ) -> Summing
-    ensures { λ r. ⌜ Summed (withRounding (reading.amount mode (now (currency .entry)) (linkDoc (now (table .entry)) (now (text .entry)) (now (links .entry))) (reading.site PathOf.SummationRoundingAmount TermOf.Bt114) n (bytes "RoundingAmount")) (sumsOf (s .sums))) s (now (entries .entry)) r (now (entries .exit)) ⌝ }
+    ensures { λ r. ⌜ Summed (withRounding (reading.amountOf mode (now (currency .entry)) (linkDoc (now (table .entry)) (now (text .entry)) (now (links .entry))) (reading.site PathOf.SummationRoundingAmount TermOf.Bt114) e) (sumsOf (s .sums))) s (now (entries .entry)) r (now (entries .exit)) ⌝ }
 {
     let site = Site {
         path: Path::SummationRoundingAmount,
@@ -115,19 +90,7 @@ pub(crate) fn rounding_amount(
         index: Index::Absent,
     };
     let at = s.at;
-    let want = b"RoundingAmount";
-    let read = values::amount(
-        table,
-        text,
-        links,
-        mode,
-        currency,
-        entries,
-        at,
-        site,
-        n,
-        want,
-    );
+    let read = values::amount_of(table, text, links, mode, currency, entries, at, site, e);
     let amount = read.amount;
     Summing {
         sums: with_rounding(s.sums, amount),
@@ -145,9 +108,9 @@ pub(crate) fn total_prepaid(
     currency: &[u8],
     entries: &mut [i64],
     s: Summing,
-    n: usize,
+    e: usize,
 ) -> Summing
-    ensures { λ r. ⌜ Summed (withPaid (reading.amount mode (now (currency .entry)) (linkDoc (now (table .entry)) (now (text .entry)) (now (links .entry))) (reading.site PathOf.SummationTotalPrepaidAmount TermOf.Bt113) n (bytes "TotalPrepaidAmount")) (sumsOf (s .sums))) s (now (entries .entry)) r (now (entries .exit)) ⌝ }
+    ensures { λ r. ⌜ Summed (withPaid (reading.amountOf mode (now (currency .entry)) (linkDoc (now (table .entry)) (now (text .entry)) (now (links .entry))) (reading.site PathOf.SummationTotalPrepaidAmount TermOf.Bt113) e) (sumsOf (s .sums))) s (now (entries .entry)) r (now (entries .exit)) ⌝ }
 {
     let site = Site {
         path: Path::SummationTotalPrepaidAmount,
@@ -155,19 +118,7 @@ pub(crate) fn total_prepaid(
         index: Index::Absent,
     };
     let at = s.at;
-    let want = b"TotalPrepaidAmount";
-    let read = values::amount(
-        table,
-        text,
-        links,
-        mode,
-        currency,
-        entries,
-        at,
-        site,
-        n,
-        want,
-    );
+    let read = values::amount_of(table, text, links, mode, currency, entries, at, site, e);
     let amount = read.amount;
     Summing {
         sums: with_paid(s.sums, amount),

@@ -165,7 +165,7 @@ fn amount_from(
 }
 
 // The amount of element e, absent where it has no text.
-fn amount_of(
+pub fn amount_of(
     table: &[u32],
     text: &[u8],
     links: &[u16],

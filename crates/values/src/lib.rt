@@ -15,6 +15,7 @@ mod saying;
 pub use amounts::AmountSaid;
 pub use amounts::RequiredAmount;
 pub use amounts::amount;
+pub use amounts::amount_of;
 pub use amounts::required_amount;
 pub use amounts::tax_amount;
 pub use dates::DateSaid;

@@ -1,12 +1,10 @@
 use borrow.Author.Needs.{needs}
-use Rattle.text.specs.Utf8.{bytes, encode}
 use Rattle.totals.proofs.Steps.{allowance-told}
 use Rattle.totals.proofs.optional.allowance_total.Statement.{statement}
 use Rattle.totals.proofs.optional.allowance_total.Tie as tie
 
 returns : tie.Need-returns
-unfolding bytes encode
-returns c = allowance-told (c .before .before .amount .ensures) (c .with-allowance .ensures)
+returns c = allowance-told (c .before .before .amount-of .ensures) (c .with-allowance .ensures)
 
 pub allowance-total-spec : {M : Type 1} → statement M
 allowance-total-spec =

@@ -1,12 +1,10 @@
 use borrow.Author.Needs.{needs}
-use Rattle.text.specs.Utf8.{bytes, encode}
 use Rattle.totals.proofs.Steps.{charge-told}
 use Rattle.totals.proofs.optional.charge_total.Statement.{statement}
 use Rattle.totals.proofs.optional.charge_total.Tie as tie
 
 returns : tie.Need-returns
-unfolding bytes encode
-returns c = charge-told (c .before .before .amount .ensures) (c .with-charge .ensures)
+returns c = charge-told (c .before .before .amount-of .ensures) (c .with-charge .ensures)
 
 pub charge-total-spec : {M : Type 1} → statement M
 charge-total-spec =

@@ -1,12 +1,10 @@
 use borrow.Author.Needs.{needs}
-use Rattle.text.specs.Utf8.{bytes, encode}
 use Rattle.totals.proofs.Steps.{rounding-told}
 use Rattle.totals.proofs.optional.rounding_amount.Statement.{statement}
 use Rattle.totals.proofs.optional.rounding_amount.Tie as tie
 
 returns : tie.Need-returns
-unfolding bytes encode
-returns c = rounding-told (c .before .before .amount .ensures) (c .with-rounding .ensures)
+returns c = rounding-told (c .before .before .amount-of .ensures) (c .with-rounding .ensures)
 
 pub rounding-amount-spec : {M : Type 1} → statement M
 rounding-amount-spec =

@@ -1,12 +1,10 @@
 use borrow.Author.Needs.{needs}
-use Rattle.text.specs.Utf8.{bytes, encode}
 use Rattle.totals.proofs.Steps.{paid-told}
 use Rattle.totals.proofs.optional.total_prepaid.Statement.{statement}
 use Rattle.totals.proofs.optional.total_prepaid.Tie as tie
 
 returns : tie.Need-returns
-unfolding bytes encode
-returns c = paid-told (c .before .before .amount .ensures) (c .with-paid .ensures)
+returns c = paid-told (c .before .before .amount-of .ensures) (c .with-paid .ensures)
 
 pub total-prepaid-spec : {M : Type 1} → statement M
 total-prepaid-spec =
