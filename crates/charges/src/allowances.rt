@@ -12,11 +12,11 @@ use crate::shapes::Group;
 use crate::shapes::RowSaid;
 use crate::shapes::TaxPaths;
 use groups::CategorySaid;
+use money::AmountSaid;
+use money::RequiredAmount;
 use names::Path;
 use report::AllowanceCharge;
-use values::AmountSaid;
 use values::PercentSaid;
-use values::RequiredAmount;
 
 // Whether it is a charge, its row, and where the next entry goes.
 pub struct AllowanceChargeSaid {
@@ -67,7 +67,7 @@ fn actual_amount(
     let rule = g.amount_rule;
     let term = g.amount;
     let site = values::grouped(Path::AllowanceChargeActualAmount, term, g.index);
-    values::required_amount(
+    money::required_amount(
         table,
         text,
         links,
@@ -101,7 +101,7 @@ fn basis_amount(
     let term = g.base;
     let site = values::grouped(Path::AllowanceChargeBasisAmount, term, g.index);
     let want = b"BasisAmount";
-    values::amount(
+    money::amount(
         table,
         text,
         links,

@@ -12,6 +12,7 @@ use crate::shapes::MaybeCharge;
 use crate::shapes::RowSaid;
 use crate::shapes::TaxPaths;
 use groups::CategorySaid;
+use money::RequiredAmount;
 use names::Message;
 use names::Path;
 use names::Term;
@@ -19,7 +20,6 @@ use report::AllowanceCharge;
 use report::Amount;
 use report::Percent;
 use report::Text;
-use values::RequiredAmount;
 
 // The charge, if it is one, and where the next entry goes.
 pub struct LogisticsSaid {
@@ -69,7 +69,7 @@ fn applied_amount(
     let rule = g.amount_rule;
     let term = g.amount;
     let site = values::grouped(Path::LogisticsChargeAppliedAmount, term, g.index);
-    values::required_amount(
+    money::required_amount(
         table,
         text,
         links,

@@ -12,6 +12,7 @@ use crate::shapes::PointCode;
 use crate::shapes::VatState;
 use codes::Rule;
 use codes::VatPointDateCode;
+use money::RequiredAmount;
 use names::Message;
 use names::Path;
 use names::Term;
@@ -20,7 +21,6 @@ use report::Place;
 use report::Text;
 use report::Vat;
 use values::DateSaid;
-use values::RequiredAmount;
 
 // What a VAT breakdown makes of the point date and code, and where the next entry goes.
 pub struct VatSaid {
@@ -196,7 +196,7 @@ fn basis_amount(
     ensures { λ r. ⌜ Told (basisAmount (lentOf mode rules (now (currency .entry))) (linkDoc (now (table .entry)) (now (text .entry)) (now (links .entry))) index n) (now (entries .entry)) at (r .amount .0) (now (entries .exit)) (r .at) ⌝ }
 {
     let site = values::grouped(Path::TradeTaxBasisAmount, Term::Bt116, index);
-    values::required_amount(
+    money::required_amount(
         table,
         text,
         links,
@@ -229,7 +229,7 @@ fn calculated_amount(
     ensures { λ r. ⌜ Told (calculatedAmount (lentOf mode rules (now (currency .entry))) (linkDoc (now (table .entry)) (now (text .entry)) (now (links .entry))) index n) (now (entries .entry)) at (r .amount .0) (now (entries .exit)) (r .at) ⌝ }
 {
     let site = values::grouped(Path::TradeTaxCalculatedAmount, Term::Bt117, index);
-    values::required_amount(
+    money::required_amount(
         table,
         text,
         links,

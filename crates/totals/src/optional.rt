@@ -34,7 +34,7 @@ pub(crate) fn allowance_total(
         index: Index::Absent,
     };
     let at = s.at;
-    let read = values::amount_of(table, text, links, mode, currency, entries, at, site, e);
+    let read = money::amount_of(table, text, links, mode, currency, entries, at, site, e);
     let amount = read.amount;
     Summing {
         sums: with_allowance(s.sums, amount),
@@ -62,7 +62,7 @@ pub(crate) fn charge_total(
         index: Index::Absent,
     };
     let at = s.at;
-    let read = values::amount_of(table, text, links, mode, currency, entries, at, site, e);
+    let read = money::amount_of(table, text, links, mode, currency, entries, at, site, e);
     let amount = read.amount;
     Summing {
         sums: with_charge(s.sums, amount),
@@ -90,7 +90,7 @@ pub(crate) fn rounding_amount(
         index: Index::Absent,
     };
     let at = s.at;
-    let read = values::amount_of(table, text, links, mode, currency, entries, at, site, e);
+    let read = money::amount_of(table, text, links, mode, currency, entries, at, site, e);
     let amount = read.amount;
     Summing {
         sums: with_rounding(s.sums, amount),
@@ -118,7 +118,7 @@ pub(crate) fn total_prepaid(
         index: Index::Absent,
     };
     let at = s.at;
-    let read = values::amount_of(table, text, links, mode, currency, entries, at, site, e);
+    let read = money::amount_of(table, text, links, mode, currency, entries, at, site, e);
     let amount = read.amount;
     Summing {
         sums: with_paid(s.sums, amount),

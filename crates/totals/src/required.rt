@@ -8,10 +8,10 @@ use crate::state::Summing;
 use crate::state::Totals;
 use crate::state::TotalsSaid;
 use codes::Rule;
+use money::RequiredAmount;
 use names::Path;
 use names::Term;
 use report::Index;
-use values::RequiredAmount;
 use values::Site;
 
 // BT-106 of a summation n.
@@ -33,7 +33,7 @@ fn line_total(
         term: Term::Bt106,
         index: Index::Absent,
     };
-    values::required_amount(
+    money::required_amount(
         table,
         text,
         links,
@@ -69,7 +69,7 @@ fn tax_basis_total(
         term: Term::Bt109,
         index: Index::Absent,
     };
-    values::required_amount(
+    money::required_amount(
         table,
         text,
         links,
@@ -105,7 +105,7 @@ fn grand_total(
         term: Term::Bt112,
         index: Index::Absent,
     };
-    values::required_amount(
+    money::required_amount(
         table,
         text,
         links,
@@ -141,7 +141,7 @@ fn due_payable(
         term: Term::Bt115,
         index: Index::Absent,
     };
-    values::required_amount(
+    money::required_amount(
         table,
         text,
         links,

@@ -107,7 +107,7 @@ pub(crate) fn tax_total(
     let vat = sums.vat;
     let accounting = sums.accounting;
     let at = s.at;
-    let read = values::tax_amount(table, text, links, mode, entries, at, c);
+    let read = money::tax_amount(table, text, links, mode, entries, at, c);
     let amount = read.amount;
     let next = read.at;
     let after = taxed(s, vat, accounting, next);

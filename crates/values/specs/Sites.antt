@@ -1,30 +1,21 @@
 -- What the code's values mean.
 use mathlib.Core.Bool.{Bool, cond}
 use mathlib.Core.List.{List, []}
-use mathlib.Core.Option.{Option, none, some}
+use mathlib.Core.Option.{Option}
 use Prim.Native.Nat.{ℕ}
-use lib.IntN.{ℤ, pos}
-use Rattle.codes.specs.declared.rules.Rule.{Rule}
+use lib.IntN.{ℤ}
 use Rattle.report.specs.Rows.{Place}
 use Rattle.report.specs.Values.{indexOf}
 use Rattle.names.specs.declared.path.Path.{Path}
-use Rattle.names.specs.declared.message.Message.{Message}
-use Rattle.settlement.specs.Values.{Lent, Site, Says, percentMessage, dateMessage, missing, textBytes, answered, dateFrom, otherSpelling}
+use Rattle.settlement.specs.Values.{Lent, Site, Says, percentMessage, dateMessage, textBytes, answered, dateFrom, otherSpelling}
 use Rattle.settlement.specs.Document.{Doc}
 use Rattle.amount.specs.Percentage.{parsedPercentage}
 use Rattle.date.specs.Date.{parsedDate}
 use Rattle.values.specs.declared.saying.Site as Code
-use Rattle.values.specs.declared.currencies.Fault.{Fault}
-use Rattle.values.specs.declared.currencies.Fault.the-variants.{Right, Wrong}
 
 -- where an entry is made
 abbrev pub siteOf : Code.Site → Site
 siteOf s = record { path = s .path; term = s .term; index = indexOf (s .index) }
-
--- what is wrong with a currencyID, if anything
-abbrev pub faultOf : Fault → Option Message
-faultOf Right = none
-faultOf (Wrong m) = some m
 
 -- what is lent beside the table
 abbrev pub lentWith : ℕ → ℕ → List ℕ → List ℕ → Lent
@@ -33,10 +24,6 @@ lentWith mode rules currency identifier = record { mode = mode; rules = rules; c
 -- the same where nothing looks at the identifier
 abbrev pub lentOf : ℕ → ℕ → List ℕ → Lent
 lentOf mode rules currency = lentWith mode rules currency []
-
--- a required amount that is missing: 0, and message 9 with the path of its group
-unfoldable pub missingAmount : ℕ → Rule → Path → Site → Says Place ℤ
-missingAmount rules r p s = (pos 0, missing rules r (record { path = p; term = s .term; index = s .index }))
 
 -- the percentage that an element's text spells
 unfoldable pub parsedPercent : ℕ → Doc ℕ Place → Site → ℕ → Says Place (Option (ℤ × ℕ))

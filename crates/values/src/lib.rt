@@ -1,23 +1,15 @@
-// The values of a settlement: amounts, percentages, dates and codes of an element's children, each
-// with the entries that reading it makes.
+// The values of a settlement but for amounts: percentages, dates and codes of an element's children, each
+// with the entries that reading it makes, and how an entry is said.
 //
 // A function that has something to say is lent the entries and the place of the next one, and
 // answers where the next goes after it. A document is lent as a table, its text and its links (crate
 // `element`). No public function has a `requires`, and the crate assumes nothing of its own.
-mod amounts;
-mod currencies;
 mod dates;
 mod locating;
 mod percentages;
 mod required_codes;
 mod saying;
 
-pub use amounts::AmountSaid;
-pub use amounts::RequiredAmount;
-pub use amounts::amount;
-pub use amounts::amount_of;
-pub use amounts::required_amount;
-pub use amounts::tax_amount;
 pub use dates::DateSaid;
 pub use dates::date;
 pub use locating::grouped;
@@ -30,3 +22,4 @@ pub use required_codes::say_non_vat;
 pub use saying::Site;
 pub use saying::missing;
 pub use saying::say;
+pub use saying::say_of;

@@ -52,7 +52,7 @@ pub fn missing(entries: &mut [i64], at: usize, rules: u32, rule: Rule, site: Sit
 }
 
 // Says a message about the text of element e, as the mode trims it.
-pub(crate) fn say_of(
+pub fn say_of(
     table: &[u32],
     text: &[u8],
     links: &[u16],

@@ -1,0 +1,23 @@
+use borrow.Author.Needs.{needs}
+use Rattle.element.proofs.Documents.{found-is}
+use Rattle.settlement.specs.Values as reading
+use Rattle.values.proofs.Telling.{told-or-zero}
+use Rattle.money.specs.Amounts.{missingAmount}
+use Rattle.money.proofs.amounts.required_amount.Statement.{statement}
+use Rattle.money.proofs.amounts.required_amount.Tie as tie
+
+returns : tie.Need-returns
+unfolding reading.requiredAmount reading.kidText missingAmount
+returns c = rw (← c .before .before .before .before .kid .ensures, c .before .before .before .if1 .taken) (c .before .absent .ensures)
+
+returns-2 : tie.Need-returns-2
+unfolding reading.requiredAmount reading.kidText missingAmount
+returns-2 c = rw (← c .before .before .before .before .before .before .before .kid .ensures, found-is (c .before .before .before .before .before .before .if1 .left), ← c .before .before .before .before .before .text-in .ensures, c .before .before .before .enum-told .given .1) (c .before .absent2 .ensures)
+
+returns-3 : tie.Need-returns-3
+unfolding reading.requiredAmount reading.kidText reading.amount reading.amountOf
+returns-3 c = rw (← c .before .before .before .before .before .before .before .before .kid .ensures, found-is (c .before .before .before .before .before .before .before .if1 .left), ← c .before .before .before .before .before .before .text-in .ensures, c .before .before .before .before .enum-told2 .given .1) (told-or-zero (c .before .before .amount-from .ensures) (c .or-zero .ensures))
+
+pub required-amount-spec : {M : Type 1} → statement M
+required-amount-spec =
+    tie.close (tie.spec (λ c κs. search needs) (λ c κs. search needs) (λ c. search needs) returns (λ c κs. search needs) (λ c. search needs) (λ c κs. search needs) (λ c. search needs) (λ c κs. search needs) (λ c κs. search needs) (λ c. search needs) returns-2 (λ c. search needs) returns-3)
