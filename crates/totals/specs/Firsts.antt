@@ -1,6 +1,5 @@
 -- The first child of each optional amount's name, as the walk over the children remembers it.
 use mathlib.Core.Bool.{Bool, cond}
-use mathlib.Core.List.{List}
 use Prim.Native.Nat.{ℕ, zero, suc}
 use lib.Dec.{eqb}
 use Rattle.names.specs.declared.parent.Parent.the-variants as Parent
