@@ -16,7 +16,8 @@ use Rattle.text.proofs.Bools.{both}
 use Rattle.text.proofs.Ranges.{within-range, within-yes}
 use Rattle.characters.specs.declared.utf8.Char.{Char}
 use Rattle.characters.specs.declared.utf8.Char.the-variants.{Bad, Point}
-use Rattle.characters.specs.Characters.{isScalar, tail, scalar, two, three, four, charOf, front, size, chars, good, allGood, utf8, ascii, plain, step}
+use Rattle.characters.specs.Characters.{isScalar, tail, scalar, two, three, four, charOf, front, size, chars, good, allGood, utf8, ascii}
+use Rattle.characters.specs.Utf8Walk.{plain, step}
 
 not-bad : {c m : ℕ} → Bad ≡ Point c m → ⊥
 not-bad e = let w : _≡_ {A = ℕ} 0 1 = cc in omega arith

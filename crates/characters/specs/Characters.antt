@@ -1,9 +1,9 @@
 -- The characters of bytes in UTF-8, from RFC 3629. `encoded-utf8` and `utf8-encoded` (proofs/Encoding.antt) say that this is the RFC's encoder turned round.
 use mathlib.Core.Bool.{Bool, true, false, cond, not, _&&_, _||_}
 use mathlib.Core.List.{List, [], _∷_, _++_}
-use Prim.Native.Nat.{ℕ, zero, suc, pred, _+_, _*_, _-_, _%_}
-use lib.Dec.{ltb, leb, eqb}
-use lib.ListN.{length, getD, take, drop}
+use Prim.Native.Nat.{ℕ, zero, suc, pred, _+_, _*_, _%_}
+use lib.Dec.{ltb, leb}
+use lib.ListN.{getD}
 use Rattle.text.specs.Range.{within}
 use Rattle.text.specs.Utf8.{encode}
 use Rattle.characters.specs.declared.utf8.Char.{Char}
@@ -88,11 +88,3 @@ utf8 s = allGood (chars 0 s)
 unfoldable pub ascii : List ℕ → Bool
 ascii [] = true
 ascii (b ∷ s) = ltb b 0x80 && ascii s
-
--- a block of sixteen octets starts at i and is ASCII
-unfoldable pub plain : List ℕ → ℕ → Bool
-plain s i = eqb (i % 16) 0 && (leb 16 (length s - i) && ascii (take 16 (drop i s)))
-
--- the octets that one step over characters passes at i: such a block or a character, none where there is neither
-unfoldable pub step : List ℕ → ℕ → ℕ
-step s i = cond (plain s i) 16 (cond (good (front (drop i s))) (size (front (drop i s))) 0)

@@ -3,7 +3,8 @@
 ghost use mathlib.Core.Path.{_≡_};
 ghost use Prim.Native.Nat.{_+_, _*_, _%_, _<_};
 ghost use lib.ListN.{length, getD, drop};
-ghost use Rattle.characters.specs.Characters.{isScalar, tail, boundary, scalar, two, three, four, charOf, front, size, good, ascii, plain, step, utf8};
+ghost use Rattle.characters.specs.Characters.{isScalar, tail, boundary, scalar, two, three, four, charOf, front, size, good, ascii, utf8};
+ghost use Rattle.characters.specs.Utf8Walk.{plain, step};
 use crate::range::is_within;
 
 // What stands at the front of bytes: a character's code point and the number of its bytes, or

@@ -1,6 +1,6 @@
 use borrow.Author.Needs.{needs}
 use borrow.Author.Tests.{lt-leb}
-use Rattle.characters.specs.Characters.{plain}
+use Rattle.characters.specs.Utf8Walk.{plain}
 use Rattle.characters.proofs.Characters.{plain-is}
 use Rattle.characters.proofs.utf8.is_plain.Statement.{statement}
 use Rattle.characters.proofs.utf8.is_plain.Tie as tie

@@ -1,4 +1,4 @@
-use Rattle.characters.specs.Characters.{step}
+use Rattle.characters.specs.Utf8Walk.{step}
 use borrow.Author.Needs.{needs}
 use Rattle.characters.proofs.utf8.step_at.Statement.{statement}
 use Rattle.characters.proofs.utf8.step_at.Tie as tie
