@@ -9,9 +9,8 @@ use lib.ListN.{length}
 use Rattle.report.specs.Rows.{Place}
 use Rattle.report.specs.Placed.{Placed}
 use Rattle.settlement.specs.Document.{Doc}
-use Rattle.settlement.specs.Kinds.{Kind, logisticsCharge, sameKind, home}
-use Rattle.settlement.specs.Shapes.{Of, State, blank, Act}
-use Rattle.settlement.specs.Settlement.{own, seen, step, saysOf, holdsOf, straysOf, after}
+use Rattle.settlement.specs.Shapes.{blank}
+use Rattle.settlement.specs.Settlement.{step, saysOf, holdsOf, straysOf, after}
 use Rattle.settlement.specs.Values.{Lent}
 use Rattle.settlement.specs.Walk.{said as all}
 use Rattle.values.specs.Told.{Said}

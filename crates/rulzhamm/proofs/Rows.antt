@@ -1,11 +1,11 @@
 -- Laws of the answer's row: its parts put one after another, and what a call did.
 use mathlib.Core.Path.{_≡_, refl, ap, _∙_}
-use mathlib.Core.List.{List, [], _∷_, _++_, append-nil, append-assoc}
+use mathlib.Core.List.{List, _∷_, _++_, append-nil, append-assoc}
 use mathlib.Core.Option.{Option, none, some}
 use Prim.Native.Nat.{ℕ, _+_}
 use native.Mathlib.Omega.{arith}
-use lib.IntN.{ℤ, pos}
-use lib.ListN.{length, take, drop, length-append, drop-of-length-le}
+use lib.IntN.{ℤ}
+use lib.ListN.{length, length-append, drop-of-length-le}
 use Rattle.names.specs.Put.{put}
 use Rattle.names.proofs.Puts.{put-eq}
 use Rattle.report.specs.Rows.{Place}
@@ -17,7 +17,7 @@ use Rattle.report.proofs.Placing.{placed-then}
 use Rattle.settlement.specs.Shapes.{Identifier, Payee, Means, unset, card, debit, transfers, Period, Terms}
 use Rattle.settlement.specs.Values.{Lent}
 use Rattle.settlement.specs.Outcome.{Room, Outcome, outcome}
-use Rattle.settlement.specs.Result.{flag, identifierCells, payeeCells, periodCells, meansCells, totalsCells, termsRow, resultOf, answerRow}
+use Rattle.settlement.specs.Result.{flag, identifierCells, payeeCells, periodCells, meansCells, totalsCells, termsRow, answerRow}
 use Rattle.payment.specs.Walks.{meansOf}
 use Rattle.totals.specs.Reading.{totalsOf}
 use Rattle.steps.specs.States.{maybePayeeOf, maybePeriodOf}

@@ -1,19 +1,16 @@
 -- What a child did to the reading so far and to the lent lists, by its kind.
 use mathlib.Core.Path.{_≡_}
 use mathlib.Core.Bool.{cond}
-use mathlib.Core.List.{List, [], foldl}
+use mathlib.Core.List.{List}
 use Prim.Native.Nat.{ℕ}
-use lib.Dec.{leb}
 use lib.IntN.{ℤ}
-use lib.ListN.{length}
 use Rattle.report.specs.Rows.{Place}
 use Rattle.report.specs.Placed.{Placed}
 use Rattle.settlement.specs.Document.{Doc}
 use Rattle.settlement.specs.Kinds.{Kind, logisticsCharge, sameKind, home}
-use Rattle.settlement.specs.Shapes.{Of, State, blank, Act}
-use Rattle.settlement.specs.Settlement.{own, seen, step, saysOf, holdsOf, straysOf, after}
+use Rattle.settlement.specs.Shapes.{Of, State, Act}
+use Rattle.settlement.specs.Settlement.{own, seen}
 use Rattle.settlement.specs.Values.{Lent}
-use Rattle.settlement.specs.Walk.{said as all}
 use Rattle.values.specs.Told.{Said}
 use Rattle.unmapped.specs.Noting.{notings, Noted}
 use Rattle.report.specs.Encoding.{heldRow, rowsOf}

@@ -1,4 +1,3 @@
-use borrow.Author.Needs.{needs}
 use Rattle.rulzhamm.proofs.terms_row.flag_number.Statement.{statement}
 use Rattle.rulzhamm.proofs.terms_row.flag_number.Tie as tie
 
