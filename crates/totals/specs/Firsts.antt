@@ -1,4 +1,4 @@
--- The first child of each optional amount's name, as the walk over the children remembers it.
+-- The first child of each optional amount's name, as the code's walk over the children remembers it: `summing-at` (proofs/FirstKids.antt) joins it to `summing`.
 use mathlib.Core.Bool.{Bool, cond}
 use Prim.Native.Nat.{ℕ, zero, suc}
 use lib.Dec.{eqb}
