@@ -15,7 +15,7 @@ use Rattle.settlement.specs.Walk.{said}
 use Rattle.settlement.specs.Settlement.{own, kindOf, act, step, holdsOf, besides, debited, debitOf, after, termsOf, readingOf}
 use Rattle.settlement.specs.Alike.{keep, ofKind}
 use Rattle.settlement.specs.Last.{isNamed, lastNamed}
-use Rattle.settlement.specs.Transfers.{orMeans, areTransfers, unprovided, paymentMeansIn, partsIn, isAccount, fixed, providerAfter, transferRow, transfersIn}
+use Rattle.settlement.specs.Transfers.{orMeans, areTransfers, unprovided, paymentMeansIn, partsIn, isAccount, fixed, providerAfter, transferRow, transfersIn, allTransfers}
 use Rattle.settlement.proofs.Maps.{map-append}
 use Rattle.settlement.proofs.Walks.{keep-append}
 use Rattle.settlement.proofs.Lanes.{sameKind-eq, sameKind-refl}
@@ -47,10 +47,6 @@ debited-means (debit x) a c = refl
 debited-means transfers a c = refl
 
 module _ {N X : Type 0} (L : Lent) (D : Doc N X) where
-  -- all transfers, where they are held
-  allTransfers : List N → List (Transfer X)
-  allTransfers cs = flatMap (λ n. transfersIn D (D .kids n)) (paymentMeansIn D cs)
-
   -- the parts of one child: none where it is no payment means
   partsOf : N → List N
   partsOf c = cond (isNamed D "SpecifiedTradeSettlementPaymentMeans" c) (D .kids c) []
@@ -63,11 +59,11 @@ module _ {N X : Type 0} (L : Lent) (D : Doc N X) where
       go true = refl
       go false = refl
 
-  transfers-next : (c : N) (cs : List N) → allTransfers (c ∷ cs) ≡ transfersIn D (partsOf c) ++ allTransfers cs
+  transfers-next : (c : N) (cs : List N) → allTransfers D (c ∷ cs) ≡ transfersIn D (partsOf c) ++ allTransfers D cs
   unfolding allTransfers partsOf paymentMeansIn keep flatMap transfersIn
   transfers-next c cs = go (isNamed D "SpecifiedTradeSettlementPaymentMeans" c)
     where
-      go : (b : Bool) → flatMap (λ n. transfersIn D (D .kids n)) (cond b (c ∷ paymentMeansIn D cs) (paymentMeansIn D cs)) ≡ transfersIn D (cond b (D .kids c) []) ++ allTransfers cs
+      go : (b : Bool) → flatMap (λ n. transfersIn D (D .kids n)) (cond b (c ∷ paymentMeansIn D cs) (paymentMeansIn D cs)) ≡ transfersIn D (cond b (D .kids c) []) ++ allTransfers D cs
       go true = refl
       go false = refl
 
@@ -106,7 +102,7 @@ module _ {N X : Type 0} (L : Lent) (D : Doc N X) where
       ∙ or-assoc (s paymentMeans .means) (fixed D (partsOf c)) (fixed D (partsIn D cs))
       ∙ ap (orMeans (s paymentMeans .means)) (sym (ap (fixed D) (parts-next c cs) ∙ fixed-append D (partsOf c) (partsIn D cs)))
 
-  walk-rows : (s : State X) (cs : List N) → ofKind 1 (said (step L D) (holdsOf L D) s cs) ≡ map transfer (cond (areTransfers (orMeans (s paymentMeans .means) (fixed D (partsIn D cs)))) (allTransfers cs) [])
+  walk-rows : (s : State X) (cs : List N) → ofKind 1 (said (step L D) (holdsOf L D) s cs) ≡ map transfer (cond (areTransfers (orMeans (s paymentMeans .means) (fixed D (partsIn D cs)))) (allTransfers D cs) [])
   unfolding said ofKind keep allTransfers paymentMeansIn flatMap
   walk-rows s [] = go (areTransfers (orMeans (s paymentMeans .means) (fixed D (partsIn D []))))
     where
@@ -115,10 +111,10 @@ module _ {N X : Type 0} (L : Lent) (D : Doc N X) where
       go false = refl
   walk-rows s (c ∷ cs) =
       keep-append _ (holdsOf L D s c) _
-      ∙ ap₂ _++_ (step-rows s c) (walk-rows (step L D s c) cs ∙ ap (λ (m : Means X). map transfer (cond (areTransfers (orMeans m (fixed D (partsIn D cs)))) (allTransfers cs) [])) (step-means s c))
-      ∙ sym (map-append transfer (cond (areTransfers here) (transfersIn D (partsOf c)) []) (cond (areTransfers (orMeans here (fixed D (partsIn D cs)))) (allTransfers cs) []))
+      ∙ ap₂ _++_ (step-rows s c) (walk-rows (step L D s c) cs ∙ ap (λ (m : Means X). map transfer (cond (areTransfers (orMeans m (fixed D (partsIn D cs)))) (allTransfers D cs) [])) (step-means s c))
+      ∙ sym (map-append transfer (cond (areTransfers here) (transfersIn D (partsOf c)) []) (cond (areTransfers (orMeans here (fixed D (partsIn D cs)))) (allTransfers D cs) []))
       ∙ ap (map transfer)
-      (join-rows here (fixed D (partsIn D cs)) (transfersIn D (partsOf c)) (allTransfers cs) (λ e. no-account D (partsOf c) (or-rest (s paymentMeans .means) (fixed D (partsOf c)) e))
+      (join-rows here (fixed D (partsIn D cs)) (transfersIn D (partsOf c)) (allTransfers D cs) (λ e. no-account D (partsOf c) (or-rest (s paymentMeans .means) (fixed D (partsOf c)) e))
       ∙ ap₂ (λ (m : Means X) (l : List (Transfer X)). cond (areTransfers m) l [])
       (or-assoc (s paymentMeans .means) (fixed D (partsOf c)) (fixed D (partsIn D cs)) ∙ ap (orMeans (s paymentMeans .means)) (sym (ap (fixed D) (parts-next c cs) ∙ fixed-append D (partsOf c) (partsIn D cs))))
       (sym (transfers-next c cs)))
@@ -156,13 +152,13 @@ module _ {N X : Type 0} (L : Lent) (D : Doc N X) (cs : List N) where
       ∙ rw (walk-means L D (blank X) cs, mandate-last L D cs, creditor-last L D cs)
 
   -- where the first of them is an account, each account is a transfer, in order, with the provider of the last institution behind it in its payment means; else there are none
-  pub transfer-rows : ofKind 1 (readingOf L D cs .held) ≡ map transfer (cond (areTransfers (fixed D (partsIn D cs))) (flatMap (λ n. transfersIn D (D .kids n)) (paymentMeansIn D cs)) [])
-  unfolding readingOf allTransfers
+  pub transfer-rows : ofKind 1 (readingOf L D cs .held) ≡ map transfer (cond (areTransfers (fixed D (partsIn D cs))) (allTransfers D cs) [])
+  unfolding readingOf
   transfer-rows = walk-rows L D (blank X) cs
 
   -- providers apart: the accounts of all payment means, in order, or none
   pub account-rows : map unprovided (ofKind 1 (readingOf L D cs .held)) ≡ cond (areTransfers (fixed D (partsIn D cs))) (map (λ c. transfer (transferRow D c none)) (keep (isAccount D) (partsIn D cs))) []
-  unfolding partsIn
+  unfolding partsIn allTransfers
   account-rows = ap (map unprovided) transfer-rows ∙ go (areTransfers (fixed D (partsIn D cs)))
     where
       through : (l : List (Transfer X)) → map unprovided (map transfer l) ≡ map (λ t. unprovided (transfer t)) l

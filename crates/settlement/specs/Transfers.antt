@@ -74,3 +74,7 @@ module _ {N X : Type 0} (D : Doc N X) where
   unfoldable pub transfersIn : List N → List (Transfer X)
   transfersIn [] = []
   transfersIn (c ∷ cs) = cond (isAccount c) (transferRow c (providerAfter cs) ∷ transfersIn cs) (transfersIn cs)
+
+  -- the transfers of all payment means, those of each by itself: a provider never goes to an account of another
+  unfoldable pub allTransfers : List N → List (Transfer X)
+  allTransfers cs = flatMap (λ n. transfersIn (D .kids n)) (paymentMeansIn cs)
