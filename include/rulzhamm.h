@@ -5,8 +5,8 @@
  * the numbers mean.
  *
  * A call takes about 30 KB of stack and no heap. There is no global state: threads may call at the same
- * time, each with lists and an answer of its own. Most tables take microseconds; a table whose texts
- * overlap can take many seconds: docs/PERFORMANCE.md has the worst ones. */
+ * time, each with lists and an answer of its own. An invoice takes less than a millisecond, but a table
+ * whose texts overlap may take many seconds: docs/PERFORMANCE.md has the worst ones. */
 #ifndef RULZHAMM_H
 #define RULZHAMM_H
 
