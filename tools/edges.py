@@ -499,7 +499,7 @@ def main(words):
     files = [(os.path.join(folder, "stdin"), stdin), (os.path.join(folder, "stdout"), stdout)]
     if words == ["--check"]:
         stale = [name for name, content in files if not os.path.exists(name) or open(name, "rb").read() != content]
-        print("out of date: " + ", ".join(map(os.path.basename, stale)) if stale else "up to date")
+        print("crates/edges: " + ("out of date: " + ", ".join(map(os.path.basename, stale)) if stale else "up to date"))
         return 1 if stale else 0
     if words:
         print(__doc__)

@@ -1,20 +1,44 @@
 #!/usr/bin/env python3
 """Lays a settlement out for the program `reading` (document 01, "From the tree to the table").
 
-  layout.py SETTLEMENT.xml FOLDER    writes FOLDER/settlement.rec and FOLDER/settlement.txt
+  layout.py INVOICE.xml FOLDER    writes FOLDER/settlement.rec and FOLDER/settlement.txt
 
 The settlement is the first ApplicableHeaderTradeSettlement of the file. An element's text is all its
-direct text joined; attributes with a namespace are left out.
+direct text joined; attributes with a namespace are left out. A file with a DOCTYPE is not read, as the
+original's parser reads none. What is wrong with a file is said in one line, with its name, and nothing is
+written.
 """
 import struct
 import sys
 import xml.etree.ElementTree as xml
 
 SETTLEMENT = "ApplicableHeaderTradeSettlement"
+RECORDS, BYTES = 256, 65536    # the most that the program `reading` takes
+
+
+class Unfit(Exception):
+    """What is wrong with a file."""
+
+
+class Builder(xml.TreeBuilder):
+    def doctype(self, name, public, system):
+        raise Unfit("has a DOCTYPE, and such a file is not read")
 
 
 def local(name):
     return name.rsplit("}", 1)[-1]
+
+
+def settlement_of(source):
+    """The settlement of an XML file."""
+    try:
+        tree = xml.parse(source, xml.XMLParser(target=Builder()))
+    except (xml.ParseError, ValueError, LookupError) as e:
+        raise Unfit(f"is not XML that can be read: {e}") from None
+    for element in tree.iter():
+        if local(element.tag) == SETTLEMENT:
+            return element
+    raise Unfit(f"has no {SETTLEMENT}: it is not a CII invoice")
 
 
 def lay_out(root):
@@ -29,28 +53,47 @@ def lay_out(root):
             text.extend(b)
         return places[b], len(b)
 
-    def walk(element, parent):
+    waiting = [(root, 0)]
+    while waiting:
+        element, parent = waiting.pop()
         number = len(records)
         direct = "".join([element.text or ""] + [child.tail or "" for child in element])
         records.append((1, parent, *place(local(element.tag)), *place(direct)))
         for name, value in element.attrib.items():
             if not name.startswith("{"):
                 records.append((2, number, *place(name), *place(value)))
-        for child in element:
-            walk(child, number)
-
-    walk(root, 0)
+        waiting.extend((child, number) for child in reversed(element))
     return records, bytes(text)
 
 
-def main():
-    source, folder = sys.argv[1:]
-    root = next(e for e in xml.parse(source).iter() if local(e.tag) == SETTLEMENT)
-    records, text = lay_out(root)
-    with open(f"{folder}/settlement.rec", "wb") as f:
-        f.write(b"".join(struct.pack("<6I", *r) for r in records))
-    with open(f"{folder}/settlement.txt", "wb") as f:
-        f.write(text)
+def write(name, content):
+    with open(name, "wb") as f:
+        f.write(content)
 
 
-main()
+def main(words):
+    if len(words) != 2:
+        print(__doc__, file=sys.stderr)
+        return 2
+    source, folder = words
+    try:
+        records, text = lay_out(settlement_of(source))
+        write(f"{folder}/settlement.rec", b"".join(struct.pack("<6I", *r) for r in records))
+        write(f"{folder}/settlement.txt", text)
+    except Unfit as e:
+        print(f"layout.py: {source} {e}", file=sys.stderr)
+        return 1
+    except OSError as e:
+        print(f"layout.py: {e.filename}: {e.strerror}", file=sys.stderr)
+        return 1
+    if len(records) > RECORDS or len(text) > BYTES:
+        print(
+            f"layout.py: {source} has {len(records)} records and {len(text)} bytes of text; the program `reading` "
+            f"takes at most {RECORDS} and {BYTES}, and answers `unfit`",
+            file=sys.stderr,
+        )
+    return 0
+
+
+if __name__ == "__main__":
+    sys.exit(main(sys.argv[1:]))

@@ -199,20 +199,23 @@ def files():
     return "\n".join(lines) + "\n", "\n".join(answers) + "\n"
 
 
-def main():
-    stale = False
+def main(words):
+    if words not in ([], ["--check"]):
+        print(__doc__)
+        return 2
+    stale = []
     for name, content in zip(("stdin", "stdout"), files()):
         path = os.path.join(ROOT, "crates", "tables", name)
-        old = open(path).read() if os.path.exists(path) else None
-        if old != content:
-            stale = True
-            if "--check" not in sys.argv:
-                with open(path, "w") as f:
-                    f.write(content)
-    if "--check" in sys.argv:
-        print("out of date" if stale else "up to date")
-        sys.exit(stale)
+        if not os.path.exists(path) or open(path, "rb").read() != content.encode("ascii"):
+            stale.append(name)
+            if not words:
+                with open(path, "wb") as f:
+                    f.write(content.encode("ascii"))
+    if words:
+        print("crates/tables: " + ("out of date: " + ", ".join(stale) if stale else "up to date"))
+        return 1 if stale else 0
+    return 0
 
 
 if __name__ == "__main__":
-    main()
+    sys.exit(main(sys.argv[1:]))
