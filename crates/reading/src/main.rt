@@ -4,7 +4,8 @@
 // 4,194,304 bytes is unfit: it stands on the stack.
 //
 // What is fit to be read is decided by crate `inputs`, and the lines are made by crate `printed`; both
-// are proved. Here files are read, which trusts the C library's `open` and `read`.
+// are proved. Here files are read and `unfit` is written, which trusts the C library's `open`, `read` and
+// `write`.
 ghost use mathlib.Core.Path.{_≡_};
 ghost use lib.ListN.{length};
 use inputs::Fields;
