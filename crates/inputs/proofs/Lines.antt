@@ -15,7 +15,7 @@ use Rattle.text.specs.Span.{cut}
 use Rattle.text.proofs.Bools.{not-both}
 use Rattle.inputs.specs.declared.numeral.Numeral.{Numeral}
 use Rattle.inputs.specs.declared.numeral.Numeral.the-variants.{Number, Unfit}
-use Rattle.inputs.specs.Line.{parted, numeral, filled, orNone, fieldsOf, lineOf}
+use Rattle.inputs.specs.Line.{parted, numeral, filled, orNone, fieldsOf, longest, lineOf}
 use Rattle.inputs.specs.Places.{lineAt, spaceAt, numeralOf, fieldAt, closing, nameAt, fitAt, lineIn, Parsed}
 use Rattle.inputs.specs.declared.fields.Line as Code
 use Rattle.inputs.specs.declared.fields.Line.the-variants as Line
@@ -23,9 +23,9 @@ use Rattle.inputs.proofs.Bytes.{name-bytes, no-space}
 use Rattle.inputs.proofs.Numerals.{is-numeral, no-numeral}
 use Rattle.inputs.proofs.Parting.{Behind, spaced, ended, broken, field-behind, parted-some}
 
-pub long-line : (s : List ℕ) → 65536 < length s → Parsed s Line.Unfit
+pub long-line : (s : List ℕ) → longest < length s → Parsed s Line.Unfit
 unfolding lineOf lineIn
-long-line s h = record { says = rw (lt-leb (length s) 65536 h); is = rw (lt-leb (length s) 65536 h) }
+long-line s h = record { says = rw (lt-leb (length s) longest h); is = rw (lt-leb (length s) longest h) }
 
 -- a space stands inside the text
 pub space-inside : (s : List ℕ) (i : ℕ) {b : Bool} → b ≡ spaceAt s i → b ≡ true → i < length s
@@ -36,9 +36,9 @@ space-inside s i e t =
 record Led (s : List ℕ) (g : List (List ℕ) → List (List ℕ)) (o : Option (List (List ℕ))) : Type 0 where
   is : lineOf s ≡ bind (Option·map g o) fieldsOf
 
-led-start : (s : List ℕ) → length s ≤ 65536 → Led s (λ (fs : List (List ℕ)). fs) (parted s)
+led-start : (s : List ℕ) → length s ≤ longest → Led s (λ (fs : List (List ℕ)). fs) (parted s)
 unfolding lineOf bind
-led-start s h = record { is = rw (le-leb (length s) 65536 h) (go (parted s)) }
+led-start s h = record { is = rw (le-leb (length s) longest h) (go (parted s)) }
   where
     go : (o : Option (List (List ℕ))) → bind o fieldsOf ≡ bind (Option·map (λ (fs : List (List ℕ)). fs) o) fieldsOf
     go none = refl
@@ -117,13 +117,13 @@ module _ (s : List ℕ) (m r c i : Span) where
               rw (← em, ← er, ← ep, ← eq, is-numeral bm ex ux .0, is-numeral br ey uy .0, up, u, is-numeral bm ex ux .1, is-numeral br ey uy .1, ← ed, ← ej)
 
 -- the fields of a line, by the places and the answers of the code
-module _ (s : List ℕ) (h : length s ≤ 65536) (m : Span) (em : m ≡ fieldAt s 0) {bm : Bool} (qm : bm ≡ spaceAt s (m .end)) where
+module _ (s : List ℕ) (h : length s ≤ longest) (m : Span) (em : m ≡ fieldAt s 0) {bm : Bool} (qm : bm ≡ spaceAt s (m .end)) where
   pub one-field : bm ≡ false → Parsed s Line.Unfit
   unfolding fieldsOf lineIn
   one-field t =
       record {
         says = led-few s (led-start s h) (sym qm ∙ t) refl (field-behind s 0 m em);
-        is = rw (le-leb (length s) 65536 h, ← em, ← qm, t);
+        is = rw (le-leb (length s) longest h, ← em, ← qm, t);
       }
 
   module _ (tm : bm ≡ true) (r : Span) (er : r ≡ fieldAt s (m .end + 1)) {br : Bool} (qr : br ≡ spaceAt s (r .end)) where
@@ -135,7 +135,7 @@ module _ (s : List ℕ) (h : length s ≤ 65536) (m : Span) (em : m ≡ fieldAt 
     two-fields t =
         record {
           says = led-few s led-mode (sym qr ∙ t) refl (field-behind s (m .end + 1) r er);
-          is = rw (le-leb (length s) 65536 h, ← em, ← qm, tm, ← er, ← qr, t);
+          is = rw (le-leb (length s) longest h, ← em, ← qm, tm, ← er, ← qr, t);
         }
 
     module _ (tr : br ≡ true) (c : Span) (ec : c ≡ fieldAt s (r .end + 1)) {bc : Bool} (qc : bc ≡ spaceAt s (c .end)) where
@@ -147,7 +147,7 @@ module _ (s : List ℕ) (h : length s ≤ 65536) (m : Span) (em : m ≡ fieldAt 
       three-fields t =
           record {
             says = led-few s led-rules (sym qc ∙ t) refl (field-behind s (r .end + 1) c ec);
-            is = rw (le-leb (length s) 65536 h, ← em, ← qm, tm, ← er, ← qr, tr, ← ec, ← qc, t);
+            is = rw (le-leb (length s) longest h, ← em, ← qm, tm, ← er, ← qr, tr, ← ec, ← qc, t);
           }
 
       module _ (tc : bc ≡ true) (i : Span) (ei : i ≡ fieldAt s (c .end + 1)) {bi : Bool} (qi : bi ≡ closing (drop (i .end) s)) where
@@ -159,7 +159,7 @@ module _ (s : List ℕ) (h : length s ≤ 65536) (m : Span) (em : m ≡ fieldAt 
         five-fields t =
             record {
               says = led-many s led-currency (drop (i .end + 1) s) (sym qi ∙ t) (λ f fs. refl) (field-behind s (c .end + 1) i ei);
-              is = rw (le-leb (length s) 65536 h, ← em, ← qm, tm, ← er, ← qr, tr, ← ec, ← qc, tc, ← ei, ← qi, t);
+              is = rw (le-leb (length s) longest h, ← em, ← qm, tm, ← er, ← qr, tr, ← ec, ← qc, tc, ← ei, ← qi, t);
             }
 
         pub four-fields : bi ≡ true → {a : Code.Line} → a ≡ fitAt s m r c i → Parsed s a
@@ -167,5 +167,5 @@ module _ (s : List ℕ) (h : length s ≤ 65536) (m : Span) (em : m ≡ fieldAt 
         four-fields t e =
             record {
               says = ap (lineAt s) e ∙ fit-says s m r c i ∙ sym (led-last s led-currency (sym qi ∙ t) (field-behind s (c .end + 1) i ei));
-              is = e ∙ rw (le-leb (length s) 65536 h, ← em, ← qm, tm, ← er, ← qr, tr, ← ec, ← qc, tc, ← ei, ← qi, t);
+              is = e ∙ rw (le-leb (length s) longest h, ← em, ← qm, tm, ← er, ← qr, tr, ← ec, ← qc, tc, ← ei, ← qi, t);
             }

@@ -3,13 +3,15 @@ use mathlib.Core.Path.{_≡_, refl, sym, ap, _∙_}
 use mathlib.Core.Bool.{Bool, true, false, not, _||_}
 use mathlib.Core.List.{List, [], _∷_, _++_, append-assoc, append-nil}
 use mathlib.Core.Logic.{_⊎_, inl, inr}
-use mathlib.Core.Option.{none, some, Option·map, Option·none-ne-some, Option·some-injective}
+use mathlib.Core.Option.{none, some, Option·map, Option·none-ne-some, Option·some-injective, bind}
 use Prim.Native.Nat.{ℕ}
-use borrow.Author.Tests.{eqb-true}
+use borrow.Author.Tests.{eqb-true, le-leb}
 use lib.Dec.{eqb}
+use lib.ListN.{length}
+use Rattle.text.specs.Digits.{number}
 use Rattle.text.proofs.Bools.{both}
-use Rattle.inputs.specs.Line.{ahead, parted}
-use Rattle.inputs.specs.Spelling.{mark, plain, allPlain, joined, Spelled}
+use Rattle.inputs.specs.Line.{ahead, parted, orNone, fieldsOf, longest, lineOf}
+use Rattle.inputs.specs.Spelling.{mark, plain, allPlain, joined, Spelled, Formed}
 use Rattle.inputs.proofs.Parting.{ahead-first, parted-empty, parted-space, parted-other, parted-feed, parted-after, parted-some}
 
 -- a byte of a field is neither a space nor a line feed
@@ -53,6 +55,12 @@ spelled-parted f fs s k = go (k .is)
     go : (s ≡ joined (f ∷ fs)) ⊎ (s ≡ joined (f ∷ fs) ++ 0x0A ∷ []) → parted s ≡ some (f ∷ fs)
     go (inl e) = ap parted (e ∙ sym (append-nil (joined (f ∷ fs)))) ∙ joined-parted f fs [] (k .plain) parted-empty
     go (inr e) = ap parted e ∙ joined-parted f fs (0x0A ∷ []) (k .plain) parted-feed
+
+-- an input of the right form says its fields
+pub formed-line : (m r c i s : List ℕ) → Formed m r c i s → lineOf s ≡ some (record { mode = number 0 m; rules = number 0 r; currency = orNone c; identifier = orNone i })
+unfolding fieldsOf lineOf bind
+formed-line m r c i s k =
+    rw (le-leb (length s) longest (k .short), spelled-parted m (r ∷ c ∷ i ∷ []) s (k .spelled), k .mode, k .rules, k .currency, k .identifier)
 
 -- one byte more at the front
 module _ {g : List ℕ} {gs : List (List ℕ)} {s : List ℕ} (k : Spelled (g ∷ gs) s) where

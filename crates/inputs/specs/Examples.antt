@@ -3,6 +3,7 @@ use mathlib.Core.List.{List, [], _∷_}
 use mathlib.Core.Option.{Option, none, some, Option·map}
 use Prim.Native.Nat.{ℕ}
 use Prim.Native.String.{String}
+use lib.ListN.{length, replicate}
 use Rattle.text.specs.Utf8.{bytes}
 use Rattle.inputs.specs.Line.{Content}
 use Rattle.inputs.specs.Given.{Given, inputOf}
@@ -36,4 +37,19 @@ recordFiles =
     ([], some [])
     ∷ (1 ∷ 2 ∷ 3 ∷ 4 ∷ 255 ∷ 255 ∷ 255 ∷ 255 ∷ [], some (67305985 ∷ 4294967295 ∷ []))
     ∷ (0 ∷ 0 ∷ 0 ∷ 0 ∷ 0 ∷ [], none)
+    ∷ []
+
+-- how many numbers and how many bytes of text a record file and a text of these sizes give beside that line
+abbrev pub countsOf : ℕ → ℕ → Option (ℕ × ℕ)
+countsOf records text =
+    Option·map (λ (g : Given). (length (g .table), length (g .text))) (inputOf (replicate records 0) (replicate text 0x20) (bytes "0 0 EUR -"))
+
+-- sizes of record file and text: each limit, a number and a byte beyond it, and files not of whole numbers
+unfoldable pub sizes : List ((ℕ × ℕ) × Option (ℕ × ℕ))
+sizes =
+    ((6144, 65536), some (1536, 65536))
+    ∷ ((6148, 0), none)
+    ∷ ((0, 65537), none)
+    ∷ ((6143, 0), none)
+    ∷ ((6145, 0), none)
     ∷ []

@@ -62,6 +62,10 @@ fieldsOf (m ∷ r ∷ []) = none
 fieldsOf (m ∷ r ∷ c ∷ []) = none
 fieldsOf (m ∷ r ∷ c ∷ i ∷ f ∷ fs) = none
 
--- what an input says; one of more than 65,536 bytes is unfit
+-- the most bytes of an input; document 01 has no such limit
+abbrev pub longest : ℕ
+longest = 4194304
+
+-- what an input says; a longer one is unfit
 unfoldable pub lineOf : List ℕ → Option Content
-lineOf s = cond (leb (length s) 65536) (bind (parted s) fieldsOf) none
+lineOf s = cond (leb (length s) longest) (bind (parted s) fieldsOf) none

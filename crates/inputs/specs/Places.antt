@@ -11,7 +11,7 @@ use Rattle.text.specs.Digits.{number}
 use Rattle.text.specs.Order.{equal}
 use Rattle.text.specs.Span.{cut}
 use Rattle.names.specs.Put.{put}
-use Rattle.inputs.specs.Line.{Content, numeral, filled, lineOf}
+use Rattle.inputs.specs.Line.{Content, numeral, filled, longest, lineOf}
 use Rattle.inputs.specs.Given.{Given, numbersOf, recordFile, inputOf}
 use Rattle.inputs.specs.Spelling.{mark}
 use Rattle.inputs.specs.declared.fields.Line.{Line}
@@ -77,7 +77,7 @@ lineIn s =
     let r = fieldAt s (m .end + 1) in
     let c = fieldAt s (r .end + 1) in
     let i = fieldAt s (c .end + 1) in
-    cond (leb (length s) 65536 && spaceAt s (m .end) && spaceAt s (r .end) && spaceAt s (c .end) && closing (drop (i .end) s))
+    cond (leb (length s) longest && spaceAt s (m .end) && spaceAt s (r .end) && spaceAt s (c .end) && closing (drop (i .end) s))
     (fitAt s m r c i)
     Unfit
 

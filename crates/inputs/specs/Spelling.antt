@@ -3,8 +3,10 @@ use mathlib.Core.Path.{_≡_}
 use mathlib.Core.Bool.{Bool, true, not, _&&_, _||_}
 use mathlib.Core.List.{List, [], _∷_, _++_}
 use mathlib.Core.Logic.{_⊎_}
-use Prim.Native.Nat.{ℕ, _/_, _%_, _^_}
+use Prim.Native.Nat.{ℕ, _/_, _%_, _^_, _≤_}
 use lib.Dec.{ltb, eqb}
+use lib.ListN.{length}
+use Rattle.inputs.specs.Line.{numeral, filled, longest}
 
 -- a space or a line feed
 unfoldable pub mark : ℕ → Bool
@@ -29,6 +31,15 @@ joined (f ∷ g ∷ fs) = f ++ 0x20 ∷ joined (g ∷ fs)
 pub record Spelled (fs : List (List ℕ)) (s : List ℕ) : Type 0 where
   pub plain : allPlain fs ≡ true
   pub is : (s ≡ joined fs) ⊎ (s ≡ joined fs ++ 0x0A ∷ [])
+
+-- an input line of the right form, with these fields: mode and rules "one to nine digits each", currency, identifier
+pub record Formed (m r c i s : List ℕ) : Type 0 where
+  pub spelled : Spelled (m ∷ r ∷ c ∷ i ∷ []) s
+  pub mode : numeral m ≡ true
+  pub rules : numeral r ≡ true
+  pub currency : filled c ≡ true
+  pub identifier : filled i ≡ true
+  pub short : length s ≤ longest
 
 -- numbers of 32 bits
 unfoldable pub allFit : List ℕ → Bool

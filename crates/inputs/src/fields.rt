@@ -11,8 +11,8 @@ use crate::parts::is_closing;
 use crate::parts::is_space;
 use text::Span;
 
-// The most bytes of an input.
-const LONGEST: usize = 65536;
+// The most bytes of an input line, with its line feed.
+const LONGEST: usize = 4194304;
 
 // What a line says: two numbers, and where currency and identifier stand in it. The place of one that
 // is not given is empty.

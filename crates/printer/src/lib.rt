@@ -1,13 +1,14 @@
 // Reads a settlement of at most 256 records and prints its reading on standard output (document 01,
 // "The printed reading"), for the programs that do so.
 //
-// The lines are made by crate `printed`, which is proved; here they are only written. The crate trusts
-// the C library's `write`, through `io`.
+// The lines are made by crate `printed`, which is proved; here they are only written, until a write fails:
+// what arrives is a beginning of the reading. The crate trusts the C library's `write`, through `io`.
 use rulzhamm::rulzhamm_read;
 
 const STDOUT: i32 = 1;
 
-// Writes the lines of what a call left. A line of a text of at most 65,536 bytes has room in `out`.
+// Writes the lines of what a call left, up to the first write that fails. A line of a text of at most
+// 65,536 bytes has room in `out`.
 fn print_lines(
     out: &mut [u8; 524288],
     text: &[u8],
@@ -20,7 +21,9 @@ fn print_lines(
     let mut k = 0;
     while k < lines {
         let n = printed::put_line(out, text, answer, held, entries, unmapped, k);
-        io::write_all(STDOUT, text::clip(out, 0, n));
+        if !io::write_all(STDOUT, text::clip(out, 0, n)) {
+            return;
+        }
         k += 1;
     }
 }

@@ -1,9 +1,12 @@
 // Prints the reading of a settlement that is laid out in two files: `settlement.rec`, its records as
 // little-endian numbers of 32 bits, and `settlement.txt`, their text. Standard input is one line: mode,
-// rules number, currency or `-`, identifier or `-` (document 01, "The printed reading").
+// rules number, currency or `-`, identifier or `-` (document 01, "The printed reading"). A line of more than
+// 4,194,304 bytes is unfit: it stands on the stack.
 //
 // What is fit to be read is decided by crate `inputs`, and the lines are made by crate `printed`; both
 // are proved. Here files are read, which trusts the C library's `open` and `read`.
+ghost use mathlib.Core.Path.{_≡_};
+ghost use lib.ListN.{length};
 use inputs::Fields;
 use inputs::Line;
 use inputs::bytes_at;
@@ -70,11 +73,18 @@ fn print_input(records: &[u8], text: &[u8], input: &[u8]) {
     }
 }
 
+// Zeros for the input line. The `ensures` gives only the length: so many zeros are more than a proof can hold.
+fn line_buffer() -> [u8; 4194305]
+    ensures { λ r. ⌜ 4194305 ≡ length r ⌝ }
+{
+    [0; 4194305]
+}
+
 // Each buffer has a byte more than is fit, so that what is too long is seen.
 fn main() {
     let mut records = [0u8; 6145];
     let mut text = [0u8; 65537];
-    let mut input = [0u8; 65537];
+    let mut input = line_buffer();
     let recs = file_contents(b"settlement.rec", &mut records);
     let txt = file_contents(b"settlement.txt", &mut text);
     let line = contents_of(STDIN, &mut input);
