@@ -9,7 +9,7 @@
 
 #include <stdlib.h>
 
-/* A case's numbers; one that is no whole record may follow. */
+/* A case's numbers. */
 static uint32_t table[RULZHAMM_RECORD * MOST_RECORDS];
 
 /* Puts the bytes of an escaped text in its own place, and answers how many there are. */
