@@ -167,8 +167,8 @@ def schemes():
 def tax_totals():
     def totals(invoice, tax, *amounts):
         codes = element("InvoiceCurrencyCode", invoice), element("TaxCurrencyCode", tax)
-        laid_out = (element("TaxTotalAmount", text, **attributes) for text, attributes in amounts)
-        return 0, 0, laid(settlement(*codes, element(SUMMATION, "", *laid_out)))
+        kids = (element("TaxTotalAmount", text, **attributes) for text, attributes in amounts)
+        return 0, 0, laid(settlement(*codes, element(SUMMATION, "", *kids)))
 
     code = lambda currency: {"currencyID": currency}
     euro, dollar, pound, none = code("EUR"), code("USD"), code("GBP"), {}
@@ -213,11 +213,10 @@ def means_of_payment():
 
 
 def vat_points():
-    code, date = "DueDateTypeCode", "TaxPointDate"
-    day = lambda text: element("ApplicableTradeTax", "", element(date, "", element("DateString", text)))
+    day = lambda text: element("ApplicableTradeTax", "", child("TaxPointDate", DateString=text))
     # the first code is kept, readable or not; an equal one says nothing
     for codes in (("3", "5"), ("x", "x"), ("x", "5", "29"), (" ", "5"), ("5", "3", "5"), (" 5", "5 ")):
-        yield 0, 0, laid(settlement(*(child("ApplicableTradeTax", **{code: text}) for text in codes)))
+        yield 0, 0, laid(settlement(*(child("ApplicableTradeTax", DueDateTypeCode=text) for text in codes)))
     # dates until one is read
     for days in (("x", "20240229"), ("20240229", "20240301"), ("20240229", "x"), ("x", "x")):
         yield 0, 0, laid(settlement(*map(day, days)))
@@ -240,7 +239,7 @@ def last_ones():
         for last in ((), *((b,) for b in blank), (creditor, child(terms, DirectDebitMandateID="N"))):
             yield 0, 0, laid(settlement(*means, creditor, mandate, *last))
     # all of a group's terms, then none of them
-    date = lambda name, text: element(name, "", element("DateTimeString", text))
+    date = lambda name, text: child(name, DateTimeString=text)
     full = (
         element(terms, "", element("Description", " d "), date("DueDateDateTime", "20240229")),
         element("BillingSpecifiedPeriod", "", date("StartDateTime", "20240101"), date("EndDateTime", "20240131")),
