@@ -1,25 +1,23 @@
-/* Document 01's example through the C interface: InvoiceCurrencyCode EUR, a payment means with one
- * account DE1, and Foo. Prints nothing and exits with 0 where every number is as it must be. */
+/* Two settlements through the C interface: document 01's example, and a VAT breakdown with a rate, without
+ * one, and with an amount that cannot be read. docs/LAYOUT.md has the places. Prints nothing and exits with
+ * 0 where every number is as it must be. */
 #include "rulzhamm.h"
 
 #include <stdio.h>
 #include <string.h>
 
-#define RECORDS 6
+#define MOST_RECORDS 16
 
-static const char TEXT[] =
-    "ApplicableHeaderTradeSettlement" "InvoiceCurrencyCode" "EUR"
-    "SpecifiedTradeSettlementPaymentMeans" "PayeePartyCreditorFinancialAccount" "IBANID" "DE1" "Foo";
+/* The table and its text, filled by `element`. */
+static uint32_t table[RULZHAMM_RECORD * MOST_RECORDS];
+static char text[1024];
+static uint32_t records, bytes;
 
-/* Kind, parent, name and text (start, length) of each record, in the text above. */
-static const uint32_t TABLE[RECORDS * RULZHAMM_RECORD] = {
-    1, 0, 0, 31, 0, 0,      /* ApplicableHeaderTradeSettlement */
-    1, 0, 31, 19, 50, 3,    /* InvoiceCurrencyCode: EUR */
-    1, 0, 53, 36, 0, 0,     /* SpecifiedTradeSettlementPaymentMeans */
-    1, 2, 89, 34, 0, 0,     /* PayeePartyCreditorFinancialAccount */
-    1, 3, 123, 6, 129, 3,   /* IBANID: DE1 */
-    1, 0, 132, 3, 0, 0,     /* Foo */
-};
+/* What comes back. */
+static int64_t held[RULZHAMM_HELD_ROOM(MOST_RECORDS)];
+static int64_t entries[RULZHAMM_ENTRY_ROOM(MOST_RECORDS)];
+static int64_t unmapped[RULZHAMM_UNMAPPED_ROOM(MOST_RECORDS)];
+static int64_t answer[RULZHAMM_ANSWER];
 
 static int failures;
 
@@ -32,50 +30,128 @@ static void expect(const char *what, int64_t found, int64_t wanted) {
 
 static void expect_text(const char *what, const int64_t *place, const char *wanted) {
     if (place[0] < 0 || place[1] != (int64_t)strlen(wanted)
-        || memcmp(TEXT + place[0], wanted, strlen(wanted)) != 0) {
+        || memcmp(text + place[0], wanted, strlen(wanted)) != 0) {
         fprintf(stderr, "%s: not %s\n", what, wanted);
         failures++;
     }
 }
 
-static int64_t held[RULZHAMM_HELD_ROOM(RECORDS)];
-static int64_t entries[RULZHAMM_ENTRY_ROOM(RECORDS)];
-static int64_t unmapped[RULZHAMM_UNMAPPED_ROOM(RECORDS)];
-static int64_t answer[RULZHAMM_ANSWER];
-
-/* Reads the table in mode 0, with EUR as the invoice currency and no identifier. */
-static void read_example(uint32_t rules) {
-    rulzhamm_read(TABLE, RECORDS * RULZHAMM_RECORD, (const uint8_t *)TEXT, sizeof TEXT - 1,
-                  (const uint8_t *)"EUR", 3, (const uint8_t *)"", 0, rules, 0,
-                  held, RULZHAMM_HELD_ROOM(RECORDS), entries, RULZHAMM_ENTRY_ROOM(RECORDS),
-                  unmapped, RULZHAMM_UNMAPPED_ROOM(RECORDS), answer);
+static void expect_absent(const char *what, const int64_t *place) {
+    expect(what, place[0], -1);
+    expect(what, place[1], 0);
 }
 
-int main(void) {
+/* Puts a name or a text behind the others: its start and length. */
+static void put(uint32_t *place, const char *s) {
+    place[0] = bytes;
+    place[1] = (uint32_t)strlen(s);
+    memcpy(text + bytes, s, strlen(s));
+    bytes += place[1];
+}
+
+/* One more element: its parent's record, name and text. Answers its own record. */
+static uint32_t element(uint32_t parent, const char *name, const char *content) {
+    uint32_t *record = table + RULZHAMM_RECORD * records;
+    record[0] = 1;
+    record[1] = parent;
+    put(record + 2, name);
+    put(record + 4, content);
+    return records++;
+}
+
+/* The table starts anew, with the settlement as record 0. */
+static void settlement(void) {
+    records = bytes = 0;
+    element(0, "ApplicableHeaderTradeSettlement", "");
+}
+
+/* Reads the table in mode 0, with EUR as the invoice currency and no identifier. */
+static void read_table(uint32_t rules) {
+    rulzhamm_read(table, RULZHAMM_RECORD * records, (const uint8_t *)text, bytes,
+                  (const uint8_t *)"EUR", 3, (const uint8_t *)"", 0, rules, 0,
+                  held, RULZHAMM_HELD_ROOM(records), entries, RULZHAMM_ENTRY_ROOM(records),
+                  unmapped, RULZHAMM_UNMAPPED_ROOM(records), answer);
+}
+
+static void expect_example(void) {
+    settlement();
+    element(0, "InvoiceCurrencyCode", "EUR");
+    uint32_t means = element(0, "SpecifiedTradeSettlementPaymentMeans", "");
+    element(element(means, "PayeePartyCreditorFinancialAccount", ""), "IBANID", "DE1");
+    element(0, "Foo", "");
     memset(held, 0x55, sizeof held);
-    read_example(0);
+    read_table(0);
     expect("refusal", answer[0], 0);
     expect("held rows", answer[2], 1);
     expect("entries", answer[3], 0);
     expect("unmapped rows", answer[4], 1);
     expect_text("BT-5", answer + 5, "EUR");
-    expect("BT-6", answer[7], -1);
+    expect_absent("BT-6", answer + 7);
     expect("BG-16", answer[30], 1);
     expect("BG-18", answer[37], 0);
     expect("BT-115", answer[64], 0);
     expect("kind of the held row", held[0], 1);
     expect_text("account", held + 1, "DE1");
-    expect("account name", held[3], -1);
+    expect_absent("account name", held + 3);
     expect("parent of the unmapped row", unmapped[0], 1);
     expect_text("unmapped name", unmapped + 1, "Foo");
     expect("behind the held row", held[RULZHAMM_HELD], 0x5555555555555555);
 
     /* A rules number above 4,095 is refusal 2, and the lists stay as they are. */
     held[0] = 77;
-    read_example(4096);
+    read_table(4096);
     expect("refusal", answer[0], 2);
     expect("held rows of a refusal", answer[2], 0);
-    expect("BT-5 of a refusal", answer[5], -1);
+    expect_absent("BT-5 of a refusal", answer + 5);
     expect("a list after a refusal", held[0], 77);
+}
+
+/* A VAT row: taxable amount, category, rate as unscaled number and scale, no exemption reason. */
+static void expect_vat(const int64_t *row, int64_t taxable, const char *category, int64_t unscaled, int64_t scale) {
+    expect("kind of a VAT row", row[0], 2);
+    expect("taxable amount", row[1], taxable);
+    expect("tax", row[2], 0);
+    expect_text("category", row + 3, category);
+    expect("rate, unscaled", row[5], unscaled);
+    expect("scale of the rate", row[6], scale);
+    expect_absent("exemption reason", row + 7);
+    expect_absent("code of the exemption reason", row + 9);
+}
+
+static void expect_entry(const int64_t *row, int64_t message, int64_t path, int64_t term, int64_t index) {
+    expect("message", row[0], message);
+    expect("path", row[1], path);
+    expect("term", row[2], term);
+    expect("group index", row[3], index);
+}
+
+static void expect_vat_breakdown(void) {
+    settlement();
+    uint32_t tax = element(0, "ApplicableTradeTax", "");
+    element(tax, "CalculatedAmount", "0");
+    element(tax, "BasisAmount", "10.00");
+    element(tax, "CategoryCode", "S");
+    element(tax, "RateApplicablePercent", "-19.50");
+    tax = element(0, "ApplicableTradeTax", "");
+    element(tax, "CalculatedAmount", " 1.000 ");
+    element(tax, "CategoryCode", "E");
+    /* Rule BR-12 alone: of what is absent only BT-106 makes an entry. */
+    read_table(1);
+    expect("refusal", answer[0], 0);
+    expect("held rows", answer[2], 2);
+    expect("entries", answer[3], 2);
+    expect_vat(held, 1000, "S", -1950, 2);
+    expect_vat(held + RULZHAMM_HELD, 0, "E", 0, -1);
+    /* 1.000 has over two decimals: ApplicableTradeTax/CalculatedAmount, BG-23[1]/BT-117. */
+    expect_entry(entries, 4, 11, 11, 1);
+    expect_text("value", entries + 4, "1.000");
+    /* BT-106 is absent: no group has an index, and there is no value. */
+    expect_entry(entries + RULZHAMM_ENTRY, 9, 38, 1, -1);
+    expect_absent("value of an absence", entries + RULZHAMM_ENTRY + 4);
+}
+
+int main(void) {
+    expect_example();
+    expect_vat_breakdown();
     return failures != 0;
 }

@@ -1,5 +1,6 @@
-//! Document 01's example through the static library, from Rust. Panics where a number is not as it
-//! must be.
+//! Two settlements through the static library, from Rust: document 01's example, and a VAT breakdown with
+//! a rate, without one, and with an amount that cannot be read. docs/LAYOUT.md has the places. Panics where
+//! a number is not as it must be.
 
 /// The reader's answer and its three lists.
 struct Reading {
@@ -82,6 +83,11 @@ fn element(table: &mut Vec<u32>, text: &mut Vec<u8>, parent: u32, name: &str, co
 }
 
 fn main() {
+    document_01();
+    vat_breakdown();
+}
+
+fn document_01() {
     let (mut table, mut text) = (Vec::new(), Vec::new());
     element(&mut table, &mut text, 0, "ApplicableHeaderTradeSettlement", "");
     element(&mut table, &mut text, 0, "InvoiceCurrencyCode", "EUR");
@@ -104,4 +110,29 @@ fn main() {
     let refused = read(&table, &text, b"EUR", b"", 4096);
     assert_eq!(refused.answer[0], 2, "a rules number above 4,095");
     assert!(refused.held.iter().chain(&refused.entries).all(|n| *n == 0), "lists as they were");
+}
+
+fn vat_breakdown() {
+    let (mut table, mut text) = (Vec::new(), Vec::new());
+    element(&mut table, &mut text, 0, "ApplicableHeaderTradeSettlement", "");
+    element(&mut table, &mut text, 0, "ApplicableTradeTax", "");
+    element(&mut table, &mut text, 1, "BasisAmount", "10.00");
+    element(&mut table, &mut text, 1, "CategoryCode", "S");
+    element(&mut table, &mut text, 1, "RateApplicablePercent", "-19.50");
+    element(&mut table, &mut text, 0, "ApplicableTradeTax", "");
+    element(&mut table, &mut text, 5, "CalculatedAmount", " 1.000 ");
+
+    // Rule BR-12 alone: of what is absent only BT-106 makes an entry.
+    let reading = read(&table, &text, b"EUR", b"", 1);
+    assert_eq!(reading.answer[2..5], [2, 2, 0], "held rows, entries, unmapped rows");
+    let (first, second) = (&reading.held[..14], &reading.held[14..28]);
+    assert_eq!(first[..3], [2, 1000, 0], "VAT: taxable amount and tax");
+    assert_eq!(shown(&text, &first[3..5]), Some(&b"S"[..]), "its category");
+    assert_eq!(first[5..7], [-1950, 2], "its rate, unscaled, and the scale");
+    assert_eq!(shown(&text, &second[3..5]), Some(&b""[..]), "a category that is absent is empty");
+    assert_eq!(second[5..7], [0, -1], "no rate");
+    let (malformed, absent) = (&reading.entries[..6], &reading.entries[6..12]);
+    assert_eq!(malformed[..4], [4, 11, 11, 1], "over two decimals: BG-23[1]/BT-117");
+    assert_eq!(shown(&text, &malformed[4..6]), Some(&b"1.000"[..]), "the value");
+    assert_eq!(absent[..], [9, 38, 1, -1, -1, 0], "BT-106 is absent: no index, no value");
 }

@@ -1,10 +1,11 @@
 #!/usr/bin/env python3
-"""Adds cases made by hand to the sample, for what the Rust cannot answer.
+"""Adds cases made by hand to the sample.
 
     python3 oracle/replay/handmade.py FOLDER    adds to FOLDER/stdin and FOLDER/stdout
 
 Each refusal that a case can show (4 needs a larger table, 10 shorter lists), mode 1, message 7, document
-01's edges, and odd tables. The answers come from the model of document 01 (model.py).
+01's edges, odd tables, and what the first or the last of several elements leaves. The answers come from the
+model of document 01 (model.py); the program `replay` of oracle/ compares those that the Rust can give.
 """
 import os
 import sys
@@ -163,6 +164,101 @@ def schemes():
         yield 0, 0, laid(settlement(element("PayeeTradeParty", "", *identifiers)))
 
 
+def tax_totals():
+    def totals(invoice, tax, *amounts):
+        codes = element("InvoiceCurrencyCode", invoice), element("TaxCurrencyCode", tax)
+        kids = (element("TaxTotalAmount", text, **attributes) for text, attributes in amounts)
+        return 0, 0, laid(settlement(*codes, element(SUMMATION, "", *kids)))
+
+    code = lambda currency: {"currencyID": currency}
+    euro, dollar, pound, none = code("EUR"), code("USD"), code("GBP"), {}
+    # one after the other in BT-5, in BT-6, in a third currency and without one: an unreadable one is blank
+    for attributes in (euro, dollar, pound, none):
+        for texts in (("10.00", "x"), ("10.00", " "), ("x", "10.00"), ("10.00", "x", "12.00")):
+            yield totals("EUR", "USD", *((text, attributes) for text in texts))
+    # where BT-5 is BT-6, BT-110 is set only while it is blank
+    for texts in (("10.00", "x"), ("x", "10.00"), ("x", "10.00", "12.00"), ("0", "12.00")):
+        yield totals("EUR", "EUR", *((text, euro) for text in texts))
+    # each of the two is blank alone
+    yield totals("EUR", "USD", ("10.00", euro), ("20.00", dollar), ("x", none))
+    yield totals("EUR", "USD", ("10.00", none), ("20.00", dollar), ("x", dollar))
+    yield totals("EUR", "", ("10.00", euro), ("x", code(" ")))
+
+
+def means_of_payment():
+    account = lambda iban: child("PayeePartyCreditorFinancialAccount", IBANID=iban)
+    provider = lambda **bic: child("PayeeSpecifiedCreditorFinancialInstitution", **bic)
+    card, debited = child("ApplicableTradeSettlementFinancialCard", ID="1"), child("PayerPartyDebtorFinancialAccount")
+    bic = provider(BICID="BIC")
+    nothing = provider(), provider(BICID=" ")
+    for means in (
+        # a later provider overwrites the one of the last account in the same payment means, also by nothing
+        *([[account("DE1"), bic, last]] for last in (*nothing, provider(BICID="BIC2"))),
+        *([[account("DE1"), bic, account("DE2"), last]] for last in nothing),
+        *([[account("DE1"), bic], [last]] for last in (*nothing, bic)),
+        *([[account("DE1"), bic], [account("DE2"), last]] for last in nothing),
+        # without an account held there only one with a BICID is worth an entry
+        *([[last]] for last in (*nothing, bic)),
+        [[card, account("DE1"), bic]],
+        [[account("DE1")], [card, debited, bic]],
+        # the first code, even blank, and the first text that is not
+        [[element("TypeCode", " "), element("TypeCode", "58")], [element("TypeCode", "59")]],
+        [[element("Information", " "), element("Information", "a")], [element("Information", "b")]],
+    ):
+        yield 0, 0, laid(settlement(*(element(MEANS, "", *kids) for kids in means)))
+    # IBANID, else ProprietaryID
+    for name in ("PayeePartyCreditorFinancialAccount", "PayerPartyDebtorFinancialAccount"):
+        for parts in ({"ProprietaryID": "P", "IBANID": "I"}, {"IBANID": " ", "ProprietaryID": "P"}, {"IBANID": " "}):
+            yield 0, 0, laid(settlement(element(MEANS, "", child(name, **parts))))
+
+
+def vat_points():
+    day = lambda text: element("ApplicableTradeTax", "", child("TaxPointDate", DateString=text))
+    # the first code is kept, readable or not; an equal one says nothing
+    for codes in (("3", "5"), ("x", "x"), ("x", "5", "29"), (" ", "5"), ("5", "3", "5"), (" 5", "5 ")):
+        yield 0, 0, laid(settlement(*(child("ApplicableTradeTax", DueDateTypeCode=text) for text in codes)))
+    # dates until one is read
+    for days in (("x", "20240229"), ("20240229", "20240301"), ("20240229", "x"), ("x", "x")):
+        yield 0, 0, laid(settlement(*map(day, days)))
+
+
+def last_ones():
+    """The last wins, even blank."""
+    account, terms = "ReceivableSpecifiedTradeAccountingAccount", "SpecifiedTradePaymentTerms"
+    for last in (child(account), child(account, ID=" "), child(account, ID="2")):
+        yield 0, 0, laid(settlement(child(account, ID="1"), last))
+    for name in ("CreditorReferenceID", "PaymentReference", "InvoiceCurrencyCode", "TaxCurrencyCode"):
+        for last in ("", " ", "2"):
+            yield 0, 0, laid(settlement(element(name, "1"), element(name, last)))
+    # mandate and creditor identifier: alone, with a debited account, beside a card
+    mandate, creditor = child(terms, DirectDebitMandateID="M"), element("CreditorReferenceID", "C")
+    blank = child(terms), child(terms, DirectDebitMandateID=" "), element("CreditorReferenceID", " ")
+    debited = element(MEANS, "", child("PayerPartyDebtorFinancialAccount", IBANID="DE1"))
+    card = element(MEANS, "", child("ApplicableTradeSettlementFinancialCard", ID="1"))
+    for means in ((), (debited,), (card,)):
+        for last in ((), *((b,) for b in blank), (creditor, child(terms, DirectDebitMandateID="N"))):
+            yield 0, 0, laid(settlement(*means, creditor, mandate, *last))
+    # all of a group's terms, then none of them
+    date = lambda name, text: child(name, DateTimeString=text)
+    full = (
+        element(terms, "", element("Description", " d "), date("DueDateDateTime", "20240229")),
+        element("BillingSpecifiedPeriod", "", date("StartDateTime", "20240101"), date("EndDateTime", "20240131")),
+        element("PayeeTradeParty", "", element("Name", "N"), element("ID", "1", schemeID="s")),
+        element(SUMMATION, "", *(element(name, "1") for name in (
+            "LineTotalAmount", "ChargeTotalAmount", "AllowanceTotalAmount", "TaxBasisTotalAmount", "TaxTotalAmount",
+            "RoundingAmount", "GrandTotalAmount", "TotalPrepaidAmount", "DuePayableAmount",
+        ))),
+    )
+    for group in full:
+        yield 0, 4095, laid(settlement(group, element(group[0])))
+        yield 0, 4095, laid(settlement(element(group[0]), group))
+
+
+def full_table():
+    """As many records as the program `replay` has room for: an index up to 254."""
+    yield 0, 2048, laid(settlement(*(element("InvoiceReferencedDocument") for _ in range(255))))
+
+
 def odd_tables():
     # record 0 with a text and attributes; children of a leaf
     reference = element("PaymentReference", "1", element("ID", "2"), x="y")
@@ -216,7 +312,11 @@ def odd_places():
 
 
 def cases():
-    for family in (refusals, modes, long_percentages, edges, schemes, odd_tables):
+    families = (
+        refusals, modes, long_percentages, edges, schemes, odd_tables,
+        tax_totals, means_of_payment, vat_points, last_ones, full_table,
+    )
+    for family in families:
         for mode, rules, (table, text) in family():
             yield mode, rules, "EUR", None, table, text
     charge = laid(settlement(element("SpecifiedLogisticsServiceCharge", "", element("AppliedAmount", "1"))))

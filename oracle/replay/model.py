@@ -11,10 +11,13 @@ import json
 import os
 import re
 import sys
+from typing import NamedTuple
 
 SETTLEMENT = "ApplicableHeaderTradeSettlement"
 SUMMATION = "SpecifiedTradeSettlementHeaderMonetarySummation"
 MEANS = "SpecifiedTradeSettlementPaymentMeans"
+# where unmapped elements are noted, by the parent's number
+PARENTS = {1: SETTLEMENT, 2: SUMMATION, 3: MEANS}
 RULES = ["BR-%d" % n for n in (12, 13, 14, 15, 31, 32, 36, 37, 45, 46, 47, 55)]
 # the term that each rule requires
 REQUIRED = dict(zip(("BT-%d" % n for n in (106, 109, 112, 115, 92, 95, 99, 102, 116, 117, 118, 25)), RULES))
@@ -66,6 +69,19 @@ def refusal(mode, rules, table, text):
 # ---- the tree
 
 
+class Text(str):
+    """A text of the table, which knows where its first byte stands."""
+
+    def __new__(cls, value, start):
+        text = super().__new__(cls, value)
+        text.start = start
+        return text
+
+    def strip(self, characters):
+        front = self[:len(self) - len(self.lstrip(characters))]
+        return Text(super().strip(characters), self.start + len(front.encode()))
+
+
 class Element:
     def __init__(self, name, text):
         self.name, self.text, self.attributes, self.kids = name, text, {}, []
@@ -86,7 +102,7 @@ def tree(table, text):
     elements = {}
     for i in range(len(table) // 6):
         kind, parent, ns, nl, ts, tl = table[6 * i:6 * i + 6]
-        name, value = text[ns:ns + nl].decode(), text[ts:ts + tl].decode()
+        name, value = (Text(text[start:start + length].decode(), start) for start, length in ((ns, nl), (ts, tl)))
         if kind == 2:
             elements[parent].attributes.setdefault(name, value)
             continue
@@ -97,6 +113,14 @@ def tree(table, text):
 
 
 # ---- the leaves
+
+
+class Percentage(NamedTuple):
+    unscaled: int
+    scale: int
+
+    def __str__(self):
+        return "%d/%d" % self
 
 
 DECIMAL = re.compile(r"[+-]?([0-9]*)(?:\.([0-9]*))?")
@@ -127,7 +151,7 @@ def percent_of(s):
     digits = p[0] + p[1]
     if len(digits) > 18:
         return 7, None
-    return 0, "%d/%d" % (int(digits) * (-1 if s[0] == "-" else 1), len(p[1]))
+    return 0, Percentage(int(digits) * (-1 if s[0] == "-" else 1), len(p[1]))
 
 
 def date_of(s):
@@ -145,7 +169,7 @@ def date_of(s):
 class Reading:
     def __init__(self, mode, rules, currency, identifier):
         self.mode, self.rules, self.currency, self.identifier = mode, rules, currency, identifier
-        self.terms, self.groups, self.held, self.entries, self.unmapped = {}, set(), [], [], set()
+        self.terms, self.groups, self.held, self.entries, self.unmapped = {}, set(), [], [], {}
         self.count = {kind: 0 for kind in range(1, 6)}
 
     def say(self, message, path, term=None, value=None):
@@ -154,6 +178,10 @@ class Reading:
     def hold(self, kind, *fields):
         self.count[kind] += 1
         self.held.append([kind, *fields])
+
+    def unmap(self, parent, e):
+        """Each pair of parent and name once, as it is met first."""
+        self.unmapped.setdefault((parent, e.name.encode()), e.name)
 
     def own(self, e):
         """The text of an amount, percentage or date, trimmed as the mode does."""
@@ -331,7 +359,7 @@ class Reading:
                 elif c.child_text("BICID"):
                     self.say(24, path)
             else:
-                self.unmapped.add((3, c.name.encode(), MEANS))
+                self.unmap(3, c)
 
     def summation(self, n):
         self.summed = True
@@ -355,7 +383,7 @@ class Reading:
             elif c.name == "TaxTotalAmount":
                 self.tax_total(c)
             elif c.name not in required:
-                self.unmapped.add((2, c.name.encode(), SUMMATION))
+                self.unmap(2, c)
         for name, term in required.items():
             self.terms[term] = self.required_amount(n, SETTLEMENT + "/" + SUMMATION, name, "BG-22/" + term)
 
@@ -426,7 +454,7 @@ class Reading:
             if read:
                 read(c)
             else:
-                self.unmapped.add((1, c.name.encode(), SETTLEMENT))
+                self.unmap(1, c)
 
     # the printed reading
 
@@ -442,8 +470,8 @@ class Reading:
             yield ["held", *row]
         for entry in self.entries:
             yield ["entry", *entry]
-        for _, name, parent in sorted(self.unmapped):
-            yield ["unmapped", parent + "/" + name.decode()]
+        for (parent, _), name in sorted(self.unmapped.items()):
+            yield ["unmapped", PARENTS[parent] + "/" + name]
 
 
 def printed(lines):
@@ -451,14 +479,20 @@ def printed(lines):
     return "".join("\t".join(map(field, line)) + "\n" for line in lines).encode()
 
 
-def answer(mode, rules, currency, identifier, table, text):
-    """The printed reading of a call; currency and identifier None where none is lent."""
+def called(mode, rules, currency, identifier, table, text):
+    """Refusal and reading of a call, one of them None; currency and identifier None where none is lent."""
     refused = refusal(mode, rules, table, text)
     if refused:
-        return printed([["refused", *refused]])
+        return refused, None
     reading = Reading(mode, rules, currency, identifier)
     reading.settlement(tree(table, text))
-    return printed(reading.lines())
+    return None, reading
+
+
+def answer(*case):
+    """The printed reading of a call."""
+    refused, reading = called(*case)
+    return printed([["refused", *refused]] if refused else reading.lines())
 
 
 # ---- stored cases
@@ -472,9 +506,14 @@ def parse_case(line):
     return int(mode), int(rules), none(currency), none(identifier), [int(n) for n in numbers], text
 
 
+def stored_cases(folder):
+    with open(os.path.join(folder, "stdin"), "rb") as f:
+        return f.read().split(b"\n")[:-1]
+
+
 def main():
     folder = sys.argv[1]
-    cases = open(os.path.join(folder, "stdin"), "rb").read().split(b"\n")[:-1]
+    cases = stored_cases(folder)
     answers = open(os.path.join(folder, "stdout"), "rb").read().split(b"\n\n")[:-1]
     assert len(cases) == len(answers), "as many answers as cases"
     different = [i for i, (c, a) in enumerate(zip(cases, answers)) if answer(*parse_case(c)) != a + b"\n"]

@@ -25,6 +25,29 @@ enum Next<'t> {
     Attribute(usize, &'t str, &'t str),
 }
 
+/// The tree that an accepted table describes.
+pub fn tree(layout: &Layout) -> Tree {
+    let text = |start: u32, len: u32| {
+        let bytes = &layout.text[start as usize..][..len as usize];
+        std::str::from_utf8(bytes).expect("UTF-8").to_owned()
+    };
+    let records: Vec<_> = layout.table.chunks_exact(6).collect();
+    let mut trees: Vec<Tree> = records.iter().map(|r| Tree::leaf(&text(r[2], r[3]), text(r[4], r[5]))).collect();
+    while trees.len() > 1 {
+        let tree = trees.pop().expect("a later record");
+        let [kind, parent, ..] = records[trees.len()] else { unreachable!("six numbers") };
+        let parent = &mut trees[*parent as usize];
+        if *kind == 1 {
+            parent.children.insert(0, tree);
+        } else {
+            // of two equal names the earlier counts
+            parent.attributes.retain(|(name, _)| *name != tree.name);
+            parent.attributes.insert(0, (tree.name, tree.text));
+        }
+    }
+    trees.remove(0)
+}
+
 /// Records in document order, an element's attributes right after it, each text once in that order.
 pub fn plain(tree: &Tree) -> Layout {
     let mut records = Vec::new();

@@ -1,12 +1,15 @@
 //! `replay FOLDER` runs FOLDER/stdin through the library's C function, compares the printed readings
-//! with FOLDER/stdout, and then tries what no stored case can show: the largest tables and lists
-//! with too little room (refusals 4 and 10). It ends with 1 where an answer differs.
+//! with FOLDER/stdout and, where the published Rust can answer a case, with its answer, and then tries
+//! what no stored case can show: the largest tables and lists with too little room (refusals 4 and 10).
+//! It ends with 1 where an answer differs.
 
-use compare::case;
-use compare::layout::Layout;
+use compare::generate::Document;
+use compare::layout::{self, Layout};
 use compare::library::{self, Lent, Lists, Refusal};
 use compare::print::printed;
 use compare::reading::Reading;
+use compare::tree::Tree;
+use compare::{case, markup, published};
 
 const NAME: &[u8] = b"ApplicableHeaderTradeSettlement";
 
@@ -14,21 +17,62 @@ fn main() {
     let folder = std::env::args().nth(1).expect("usage: replay FOLDER");
     let file = |name| std::fs::read_to_string(format!("{folder}/{name}")).expect(name);
     let (cases, answers) = (file("stdin"), file("stdout"));
-    let mut answers = answers.split("\n\n");
-    let mut count = [0, 0];
+    let mut answers = answers.split_terminator("\n\n");
+    let (mut ours, mut theirs) = (Compared::default(), Compared::default());
     for (i, line) in cases.lines().enumerate() {
         let (lent, layout) = case::parsed(line);
-        let ours = shown(&library::reading(&layout, lent));
         let answer = answers.next().expect("an answer");
-        let differs = ours.trim_ascii_end() != answer.trim_ascii_end().as_bytes();
-        count[usize::from(differs)] += 1;
-        if differs {
-            println!("case {}: {}\nagainst\n{answer}\n", i + 1, String::from_utf8_lossy(&ours));
+        ours.note(i, &shown(&library::reading(&layout, lent)), answer);
+        if let Some(reading) = published_answer(lent, &layout, answer) {
+            theirs.note(i, &printed(&reading), answer);
         }
     }
-    println!("{} stored answers equal, {} different", count[0], count[1]);
+    println!("{} stored answers equal, {} different", ours.equal, ours.different);
+    println!("{} of them are the Rust's, {} are not", theirs.equal, theirs.different);
     limits();
-    std::process::exit(i32::from(count[1] > 0));
+    std::process::exit(i32::from(ours.different + theirs.different > 0));
+}
+
+/// How many answers were the stored ones and how many were not.
+#[derive(Default)]
+struct Compared {
+    equal: usize,
+    different: usize,
+}
+
+impl Compared {
+    fn note(&mut self, case: usize, found: &[u8], stored: &str) {
+        if found.trim_ascii_end() == stored.trim_ascii_end().as_bytes() {
+            self.equal += 1;
+        } else {
+            self.different += 1;
+            println!("case {}: {}\nagainst\n{stored}\n", case + 1, String::from_utf8_lossy(found));
+        }
+    }
+}
+
+/// The Rust's answer to a case. It has none in mode 1, to refused tables and to those that no XML gives,
+/// and knows no message 7.
+fn published_answer(lent: Lent<'_>, layout: &Layout, stored: &str) -> Option<Reading> {
+    if lent.mode != 0 || !stored.starts_with("accepted") || stored.contains("\nentry\t7\t") {
+        return None;
+    }
+    let tree = layout::tree(layout);
+    let text = |lent: &[u8]| (!lent.is_empty()).then(|| String::from_utf8_lossy(lent).into_owned());
+    let d = Document {
+        xml: markup::plain(&tree),
+        currency: text(lent.currency),
+        identifier: text(lent.identifier),
+        rules: lent.rules,
+    };
+    let xml = roxmltree::Document::parse(&d.xml).ok()?;
+    let node = xml.root_element();
+    if Tree::of(node) != tree {
+        return None;
+    }
+    let mut reading = published::reading(node, &d);
+    reading.order = published::order_of_making(node, &d);
+    Some(reading)
 }
 
 fn shown(outcome: &Result<Reading, Refusal>) -> Vec<u8> {
