@@ -18,7 +18,7 @@ use Rattle.settlement.specs.Payments.{Part, typeCode, information, finan
 use Rattle.settlement.specs.Summation.{isNone}
 use Rattle.settlement.specs.Settlement.{own, kindOf, act, step, after, termsOf, readingOf}
 use Rattle.settlement.specs.Alike.{keep}
-use Rattle.settlement.specs.Last.{isNamed, lastNamed, firstGiven}
+use Rattle.settlement.specs.Last.{isNamed, lastThat, lastNamed, firstGiven}
 use Rattle.settlement.specs.ChildRows.{dayIn}
 use Rattle.settlement.specs.Transfers.{paymentMeansIn, partsIn}
 use Rattle.settlement.proofs.Exchange.{frame, own-lane}
@@ -27,11 +27,11 @@ use Rattle.settlement.proofs.LastWins.{reference-last, mandate-last, cr
 use Rattle.settlement.proofs.PlainValues.{date-is}
 use Rattle.settlement.proofs.PaymentParts.{part-test, provider-payment}
 
-or-none : {A : Type 0} (o : Option A) → orElse o none ≡ o
+pub or-none : {A : Type 0} (o : Option A) → orElse o none ≡ o
 or-none none = refl
 or-none (some a) = refl
 
-or-join : {A : Type 0} (o p q : Option A) → orElse (orElse o p) q ≡ orElse o (orElse p q)
+pub or-join : {A : Type 0} (o p q : Option A) → orElse (orElse o p) q ≡ orElse o (orElse p q)
 or-join none p q = refl
 or-join (some a) p q = refl
 
@@ -190,7 +190,7 @@ module _ {N X : Type 0} (L : Lent) (D : Doc N X) where
       go false false e f = ap (λ (p : Payment X). p .met) (frame L D paymentMeans s c e) ∙ f
 
   walk-met : (s : State X) (cs : List N) → foldl (step L D) s cs paymentMeans .met ≡ s paymentMeans .met || not (isNone (lastNamed D "SpecifiedTradeSettlementPaymentMeans" cs))
-  unfolding lastNamed
+  unfolding lastNamed lastThat
   walk-met s [] = go (s paymentMeans .met)
     where
       go : (m : Bool) → m ≡ m || false

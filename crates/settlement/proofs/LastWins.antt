@@ -12,31 +12,31 @@ use Rattle.settlement.specs.Shapes.{Payee, Means, unset, card, debit, tr
 use Rattle.settlement.specs.Values.{Lent, ownText, textIn, kid, kidText}
 use Rattle.settlement.specs.Summation.{totals}
 use Rattle.settlement.specs.Settlement.{payeeOf, quiet, periodOf, paymentTermsOf, own, act, step, besides, debited, debitOf, after, termsOf, readingOf}
-use Rattle.settlement.specs.Last.{isNamed, lastNamed, ofDebit}
+use Rattle.settlement.specs.Last.{isNamed, lastThat, lastNamed, ofDebit}
 use Rattle.settlement.specs.ChildRows.{amountOrZero, dayIn}
 use Rattle.settlement.proofs.Names.{kindName, Own, own-of, at-home}
 use Rattle.settlement.proofs.PlainValues.{required-is, date-is}
 
+-- a walk that forgets what it had at each child that passes a test: the last of them decides
+pub last-walk : {N S B : Type 0} (step : S → N → S) (has : S → B) (t : N → Bool) (f : N → B) → ((s : S) (n : N) → has (step s n) ≡ cond (t n) (f n) (has s)) → (s : S) (cs : List N) → has (foldl step s cs) ≡ maybe (has s) f (lastThat t cs)
+unfolding lastThat
+last-walk step has t f h s [] = refl
+last-walk {N} {S} {B} step has t f h s (c ∷ cs) = last-walk step has t f h (step s c) cs ∙ go (lastThat t cs) (t c) (h s c)
+  where
+    go : (r : Option N) (b : Bool) {a : B} → a ≡ cond b (f c) (has s) → maybe a f r ≡ maybe (has s) f (orElse r (cond b (some c) none))
+    go none true e = e
+    go none false e = e
+    go (some n) b e = refl
+
 module _ {N X : Type 0} (L : Lent) (D : Doc N X) where
   -- what a lane forgets, its last child makes
-  module _ {B : Type 0} (l : Kind) (o : Own l) (has : Of X l → B) (f : N → B) (forgets : (b : Bool) (s : Of X l) (cur : Currencies X) (n : N) → has (own L D l b s cur n .next) ≡ f n) where
-    one : (s : State X) (n : N) → has (step L D s n l) ≡ cond (isNamed D (kindName l) n) (f n) (has (s l))
-    unfolding step act
-    one s n = rw (at-home L D l o n) (go (isNamed D (kindName l) n))
-      where
-        go : (b : Bool) → has (cond b (act L D l s n .next) (s l)) ≡ cond b (f n) (has (s l))
-        go true = forgets _ (s l) _ n
-        go false = refl
-
-    lane-last : (s : State X) (cs : List N) → has (foldl (step L D) s cs l) ≡ maybe (has (s l)) f (lastNamed D (kindName l) cs)
-    unfolding lastNamed
-    lane-last s [] = refl
-    lane-last s (c ∷ cs) = lane-last (step L D s c) cs ∙ go (lastNamed D (kindName l) cs) (isNamed D (kindName l) c) (one s c)
-      where
-        go : (r : Option N) (b : Bool) {a : B} → a ≡ cond b (f c) (has (s l)) → maybe a f r ≡ maybe (has (s l)) f (orElse r (cond b (some c) none))
-        go none true e = e
-        go none false e = e
-        go (some n) b e = refl
+  lane-last : {B : Type 0} (l : Kind) → Own l → (has : Of X l → B) (f : N → B) → ((b : Bool) (s : Of X l) (cur : Currencies X) (n : N) → has (own L D l b s cur n .next) ≡ f n) → (s : State X) (cs : List N) → has (foldl (step L D) s cs l) ≡ maybe (has (s l)) f (lastNamed D (kindName l) cs)
+  unfolding lastNamed step act
+  lane-last l o has f forgets s cs = last-walk (step L D) (λ (t : State X). has (t l)) (isNamed D (kindName l)) f (λ t n. rw (at-home L D l o n) (go t n (isNamed D (kindName l) n))) s cs
+    where
+      go : (t : State X) (n : N) (b : Bool) → has (cond b (act L D l t n .next) (t l)) ≡ cond b (f n) (has (t l))
+      go t n true = forgets _ (t l) _ n
+      go t n false = refl
 
 -- mandate and creditor identifier stand in a direct debit alone
 module _ {X : Type 0} where
@@ -127,29 +127,27 @@ module _ {N X : Type 0} (L : Lent) (D : Doc N X) (cs : List N) where
   unfolding readingOf termsOf debitOf
   bt90-last = debited-creditor (after L D cs paymentMeans .means) (after L D cs paymentTerms .mandate) (after L D cs creditorReference) ∙ ap (ofDebit (readingOf L D cs .terms .means)) creditor-last
 
-  -- a required amount of the last summation, 0 where it is missing or can't be read
-  required-last : (has : Totals → ℤ) (w : List ℕ) → has noTotals ≡ pos 0 → ((cur : Currencies X) (n : N) → has (or noTotals (totals L D cur n .next)) ≡ amountOrZero L D n w) → has (readingOf L D cs .terms .totals) ≡ maybe (pos 0) (λ n. amountOrZero L D n w) (lastNamed D "SpecifiedTradeSettlementHeaderMonetarySummation" cs)
+  -- an amount that the last summation has, whatever BT-5 and BT-6 were
+  pub total-last : {B : Type 0} (has : Totals → B) (f : N → B) → ((cur : Currencies X) (n : N) → has (or noTotals (totals L D cur n .next)) ≡ f n) → has (readingOf L D cs .terms .totals) ≡ maybe (has noTotals) f (lastNamed D "SpecifiedTradeSettlementHeaderMonetarySummation" cs)
   unfolding readingOf termsOf after own
-  required-last has w z h =
-      lane-last L D summation (own-of summation tt) (λ (s : Option Totals). has (or noTotals s)) (λ n. amountOrZero L D n w) (λ b s cur n. h cur n) (blank X) cs
-      ∙ ap (λ (a : ℤ). maybe a (λ n. amountOrZero L D n w) (lastNamed D "SpecifiedTradeSettlementHeaderMonetarySummation" cs)) z
+  total-last has f h = lane-last L D summation (own-of summation tt) (λ (s : Option Totals). has (or noTotals s)) f (λ b s cur n. h cur n) (blank X) cs
 
-  -- BT-106 is its LineTotalAmount
+  -- BT-106 is the LineTotalAmount of the last summation, 0 where it is missing or can't be read
   pub bt106-last : readingOf L D cs .terms .totals .line ≡ maybe (pos 0) (λ n. amountOrZero L D n (bytes "LineTotalAmount")) (lastNamed D "SpecifiedTradeSettlementHeaderMonetarySummation" cs)
   unfolding totals
-  bt106-last = required-last (λ (t : Totals). t .line) (bytes "LineTotalAmount") refl (λ cur n. required-is L D _ _ _ n (bytes "LineTotalAmount"))
+  bt106-last = total-last (λ (t : Totals). t .line) (λ n. amountOrZero L D n (bytes "LineTotalAmount")) (λ cur n. required-is L D _ _ _ n (bytes "LineTotalAmount"))
 
   -- BT-109 its TaxBasisTotalAmount
   pub bt109-last : readingOf L D cs .terms .totals .taxable ≡ maybe (pos 0) (λ n. amountOrZero L D n (bytes "TaxBasisTotalAmount")) (lastNamed D "SpecifiedTradeSettlementHeaderMonetarySummation" cs)
   unfolding totals
-  bt109-last = required-last (λ (t : Totals). t .taxable) (bytes "TaxBasisTotalAmount") refl (λ cur n. required-is L D _ _ _ n (bytes "TaxBasisTotalAmount"))
+  bt109-last = total-last (λ (t : Totals). t .taxable) (λ n. amountOrZero L D n (bytes "TaxBasisTotalAmount")) (λ cur n. required-is L D _ _ _ n (bytes "TaxBasisTotalAmount"))
 
   -- BT-112 its GrandTotalAmount
   pub bt112-last : readingOf L D cs .terms .totals .gross ≡ maybe (pos 0) (λ n. amountOrZero L D n (bytes "GrandTotalAmount")) (lastNamed D "SpecifiedTradeSettlementHeaderMonetarySummation" cs)
   unfolding totals
-  bt112-last = required-last (λ (t : Totals). t .gross) (bytes "GrandTotalAmount") refl (λ cur n. required-is L D _ _ _ n (bytes "GrandTotalAmount"))
+  bt112-last = total-last (λ (t : Totals). t .gross) (λ n. amountOrZero L D n (bytes "GrandTotalAmount")) (λ cur n. required-is L D _ _ _ n (bytes "GrandTotalAmount"))
 
   -- BT-115 its DuePayableAmount
   pub bt115-last : readingOf L D cs .terms .totals .due ≡ maybe (pos 0) (λ n. amountOrZero L D n (bytes "DuePayableAmount")) (lastNamed D "SpecifiedTradeSettlementHeaderMonetarySummation" cs)
   unfolding totals
-  bt115-last = required-last (λ (t : Totals). t .due) (bytes "DuePayableAmount") refl (λ cur n. required-is L D _ _ _ n (bytes "DuePayableAmount"))
+  bt115-last = total-last (λ (t : Totals). t .due) (λ n. amountOrZero L D n (bytes "DuePayableAmount")) (λ cur n. required-is L D _ _ _ n (bytes "DuePayableAmount"))

@@ -27,3 +27,5 @@ pub mod FirstWins
 pub mod Edges
 pub mod Results
 pub mod Sizes
+pub mod Totals
+pub mod Meetings

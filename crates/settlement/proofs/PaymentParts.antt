@@ -15,7 +15,7 @@ use Rattle.settlement.specs.Kinds.{isYes, meant}
 use Rattle.settlement.specs.Shapes.{Means, unset, card, debit, transfers, Payment}
 use Rattle.settlement.specs.Values.{kidText}
 use Rattle.settlement.specs.Payments.{Part, typeCode, information, financialCard, debtorAccount, creditorAccount, institution, unknown, Part-discrete, parts, Paying, provided, partOf, notHeld, withMeans, firstMeans, accountOf, joined, lost, creditor, providerOf, part, paying, payingStart, paid}
-use Rattle.settlement.specs.Last.{isNamed, lastNamed}
+use Rattle.settlement.specs.Last.{isNamed, lastThat, lastNamed}
 use Rattle.settlement.specs.Transfers.{orMeans, areTransfers, isAccount, fixes, fixed, untilAccount, providerAfter, transferRow, transfersIn}
 use Rattle.settlement.proofs.Lanes.{isYes-true}
 use Rattle.settlement.proofs.Names.{Named, meant-test}
@@ -159,7 +159,7 @@ module _ {N X : Type 0} (D : Doc N X) where
   providerFrom o cs = maybe o (λ i. kidText D 0 i (bytes "BICID")) (lastNamed D "PayeeSpecifiedCreditorFinancialInstitution" (untilAccount D cs))
 
   provider-next : (o : Option X) (c : N) (cs : List N) → isAccount D c ≡ false → providerFrom o (c ∷ cs) ≡ providerFrom (cond (isNamed D "PayeeSpecifiedCreditorFinancialInstitution" c) (kidText D 0 c (bytes "BICID")) o) cs
-  unfolding providerFrom untilAccount lastNamed
+  unfolding providerFrom untilAccount lastNamed lastThat
   provider-next o c cs e = rw e (go (isNamed D "PayeeSpecifiedCreditorFinancialInstitution" c) (lastNamed D "PayeeSpecifiedCreditorFinancialInstitution" (untilAccount D cs)))
     where
       go : (b : Bool) (r : Option N) → maybe o (λ i. kidText D 0 i (bytes "BICID")) (orElse r (cond b (some c) none)) ≡ maybe (cond b (kidText D 0 c (bytes "BICID")) o) (λ i. kidText D 0 i (bytes "BICID")) r
@@ -168,7 +168,7 @@ module _ {N X : Type 0} (D : Doc N X) where
       go b (some i) = refl
 
   provider-last : (o : Option X) (c : N) (cs : List N) → isAccount D c ≡ true → providerFrom o (c ∷ cs) ≡ o
-  unfolding providerFrom untilAccount lastNamed
+  unfolding providerFrom untilAccount lastNamed lastThat
   provider-last o c cs e = rw e
 
   -- an account is held, and is the last one so far
@@ -255,7 +255,7 @@ module _ {N X : Type 0} (D : Doc N X) where
       go false false e f = here (partOf D c) refl ∙ h (part D (partOf D c) s c) pre t (open-kept (partOf D c) s pre t c e f o) ∙ next false e f
 
   open-rows : (cs : List N) → OpenRows cs
-  unfolding withProvider providerFrom untilAccount lastNamed transfersIn
+  unfolding withProvider providerFrom untilAccount lastNamed lastThat transfersIn
   open-rows [] s pre t o = o .rows
   open-rows (c ∷ cs) s pre t o = open-step c cs (open-rows cs) s pre t o
 

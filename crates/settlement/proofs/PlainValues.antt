@@ -36,7 +36,8 @@ answer-refused p f none = refl
 answer-refused p f (some a) = refl
 
 module _ {N X : Type 0} (mode : ℕ) (D : Doc N X) where
-  answered-is : {A : Type 0} (m : ℕ → Message) (s : Site) (e : N) (a : Answer A) → answered mode D m s e a .0 ≡ a .value
+  -- what the parse answered
+  pub answered-is : {A : Type 0} (m : ℕ → Message) (s : Site) (e : N) (a : Answer A) → answered mode D m s e a .0 ≡ a .value
   unfolding answered
   answered-is m s e a = answer-value _ _ (a .value)
 

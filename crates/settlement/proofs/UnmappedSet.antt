@@ -1,17 +1,22 @@
--- The unmapped names of a reading are a sorted set: they ascend, each once, and are those that were met.
-use mathlib.Core.Path.{_≡_, refl, ap, _∙_}
+-- The unmapped names of a reading are a sorted set: they ascend, each once, and are those that were met, each as it was met first.
+use mathlib.Core.Path.{_≡_, refl, sym, ap, _∙_}
+use mathlib.Core.Bool.{true≢false}
 use mathlib.Core.List.{List, [], _∷_}
-use mathlib.Core.Logic.{_⊎_, inl, inr}
+use mathlib.Core.Option.{Option, none, some}
 use Prim.Native.Nat.{Ordering, Ordering·lt, Ordering·eq, Ordering·gt}
 use Rattle.text.specs.Order.{opposite}
-use Rattle.text.proofs.Orders.{order-is, order-turned}
+use Rattle.text.proofs.Orders.{order-is, order-turned, order-trans}
 use Rattle.report.specs.Rows.{Unmapped}
-use Rattle.settlement.specs.Document.{Doc}
+use Rattle.settlement.specs.Document.{Doc, orElse}
 use Rattle.settlement.specs.Shapes.{blank}
 use Rattle.settlement.specs.Values.{Lent}
 use Rattle.settlement.specs.Walk.{said, placed, insert, insertAll}
 use Rattle.settlement.specs.Settlement.{step, straysOf, unmappedKey, unmappedOrder, readingOf}
-use Rattle.settlement.specs.Sorted.{Before, Ascending, Present}
+use Rattle.settlement.specs.Last.{firstGiven}
+use Rattle.settlement.specs.Sorted.{ifSame, Before, Ascending, firstSame}
+use Rattle.settlement.specs.Meetings.{met}
+use Rattle.settlement.proofs.FirstWins.{or-none, or-join}
+use Rattle.settlement.proofs.Meetings.{said-met}
 
 module _ {A : Type 0} (c : A → A → Ordering) (turned : (a b : A) → c b a ≡ opposite (c a b)) (joined : (a b d : A) → c a b ≡ Ordering·eq → c b d ≡ Ordering·eq → c a d ≡ Ordering·eq) where
   -- what comes before u and before a list comes before the list with u in it
@@ -40,65 +45,64 @@ module _ {A : Type 0} (c : A → A → Ordering) (turned : (a b : A) → c b a �
   all-ascending l [] h = h
   all-ascending l (u ∷ us) h = all-ascending (insert c u l) us (insert-ascending u l h)
 
-  -- what was there stays
-  insert-still : (a u : A) (l : List A) → Present c a l → Present c a (insert c u l)
-  unfolding insert
-  insert-still a u [] p = absurd p
-  insert-still a u (w ∷ l) p = go (c u w) (insert-still a u l) p
-    where
-      go : (o : Ordering) → (Present c a l → Present c a (insert c u l)) → Present c a (w ∷ l) → Present c a (placed c o u w l (insert c u l))
-      go Ordering·lt i q = inr q
-      go Ordering·eq i q = q
-      go Ordering·gt i (inl q) = inl q
-      go Ordering·gt i (inr q) = inr (i q)
+  -- what comes before a list in order is not in it
+  module _ (less : (a b d : A) → c a b ≡ Ordering·lt → c b d ≡ Ordering·lt → c a d ≡ Ordering·lt) where
+    before-next : (a b : A) (l : List A) → c a b ≡ Ordering·lt → Before c b l → Before c a l
+    before-next a b [] e h = tt
+    before-next a b (d ∷ l) e h = less a b d e h
 
-  -- what is put in is there
-  insert-there : (a u : A) (l : List A) → c a u ≡ Ordering·eq → Present c a (insert c u l)
-  unfolding insert
-  insert-there a u [] e = inl e
-  insert-there a u (w ∷ l) e = go (c u w) refl (insert-there a u l e)
-    where
-      go : (o : Ordering) → c u w ≡ o → Present c a (insert c u l) → Present c a (placed c o u w l (insert c u l))
-      go Ordering·lt f i = inl e
-      go Ordering·eq f i = inl (joined a u w e f)
-      go Ordering·gt f i = inr i
+    before-none : (a : A) (l : List A) → Before c a l → Ascending c l → firstSame c a l ≡ none
+    unfolding firstSame firstGiven
+    before-none a [] h i = refl
+    before-none a (b ∷ l) h i = ap (λ (o : Ordering). orElse (ifSame o b) (firstSame c a l)) h ∙ before-none a l (before-next a b l h (i .0)) (i .1)
 
-  -- nothing else is
-  insert-only : (a u : A) (l : List A) → Present c a (insert c u l) → Present c a (u ∷ l)
-  unfolding insert
-  insert-only a u [] p = p
-  insert-only a u (w ∷ l) p = go (c u w) (insert-only a u l) p
-    where
-      behind : Present c a (u ∷ l) → Present c a (u ∷ w ∷ l)
-      behind (inl q) = inl q
-      behind (inr q) = inr (inr q)
+    -- what is the same as one that comes before b comes before it, too
+    same-before : (a u b : A) → c a u ≡ Ordering·eq → c u b ≡ Ordering·lt → c a b ≡ Ordering·lt
+    same-before a u b e f = go (c a b) refl
+      where
+        back : c u a ≡ Ordering·eq
+        back = turned a u ∙ ap opposite e
 
-      go : (o : Ordering) → (Present c a (insert c u l) → Present c a (u ∷ l)) → Present c a (placed c o u w l (insert c u l)) → Present c a (u ∷ w ∷ l)
-      go Ordering·lt i q = q
-      go Ordering·eq i q = inr q
-      go Ordering·gt i (inl q) = inr (inl q)
-      go Ordering·gt i (inr q) = behind (i q)
+        go : (o : Ordering) → c a b ≡ o → o ≡ Ordering·lt
+        go Ordering·lt q = refl
+        go Ordering·eq q = let h : c u b ≡ Ordering·eq = joined u a b back q in absurd (true≢false cc)
+        go Ordering·gt q = let h : c u a ≡ Ordering·lt = less u b a f (turned a b ∙ ap opposite q) in absurd (true≢false (cc back))
 
-  all-there : (a : A) (l us : List A) → Present c a l ⊎ Present c a us → Present c a (insertAll c l us)
-  unfolding insertAll
-  all-there a l [] (inl p) = p
-  all-there a l [] (inr p) = absurd p
-  all-there a l (u ∷ us) (inl p) = all-there a (insert c u l) us (inl (insert-still a u l p))
-  all-there a l (u ∷ us) (inr (inl e)) = all-there a (insert c u l) us (inl (insert-there a u l e))
-  all-there a l (u ∷ us) (inr (inr p)) = all-there a (insert c u l) us (inr p)
+    -- what is put in is found where nothing that was there is the same
+    first-insert : (a u : A) (l : List A) → Ascending c l → firstSame c a (insert c u l) ≡ orElse (firstSame c a l) (ifSame (c a u) u)
+    unfolding insert firstSame firstGiven
+    first-insert a u [] h = or-none (ifSame (c a u) u)
+    first-insert a u (b ∷ l) h = go (c u b) refl (first-insert a u l (h .1))
+      where
+        there : Option A
+        there = firstSame c a (b ∷ l)
 
-  all-only : (a : A) (l us : List A) → Present c a (insertAll c l us) → Present c a l ⊎ Present c a us
-  unfolding insertAll
-  all-only a l [] p = inl p
-  all-only a l (u ∷ us) p = go (all-only a (insert c u l) us p)
-    where
-      met : Present c a (u ∷ l) → Present c a l ⊎ Present c a (u ∷ us)
-      met (inl e) = inr (inl e)
-      met (inr q) = inl q
+        ahead : (o : Ordering) → c a u ≡ o → c u b ≡ Ordering·lt → orElse (ifSame o u) there ≡ orElse there (ifSame o u)
+        ahead Ordering·lt q e = sym (or-none there)
+        ahead Ordering·eq q e = sym (ap (λ (t : Option A). orElse t (some u)) (before-none a (b ∷ l) (same-before a u b q e) h))
+        ahead Ordering·gt q e = sym (or-none there)
 
-      go : Present c a (insert c u l) ⊎ Present c a us → Present c a l ⊎ Present c a (u ∷ us)
-      go (inl q) = met (insert-only a u l q)
-      go (inr q) = inr (inr q)
+        again : (o : Ordering) → c a u ≡ o → c u b ≡ Ordering·eq → there ≡ orElse there (ifSame o u)
+        again Ordering·lt q e = sym (or-none there)
+        again Ordering·eq q e = found ∙ sym (ap (λ (t : Option A). orElse t (some u)) found)
+          where
+            found : there ≡ some b
+            found = ap (λ (o : Ordering). orElse (ifSame o b) (firstSame c a l)) (joined a u b q e)
+        again Ordering·gt q e = sym (or-none there)
+
+        go : (o : Ordering) → c u b ≡ o → firstSame c a (insert c u l) ≡ orElse (firstSame c a l) (ifSame (c a u) u) → firstSame c a (placed c o u b l (insert c u l)) ≡ orElse there (ifSame (c a u) u)
+        go Ordering·lt e i = ahead (c a u) refl e
+        go Ordering·eq e i = again (c a u) refl e
+        go Ordering·gt e i = ap (orElse (ifSame (c a b) b)) i ∙ sym (or-join (ifSame (c a b) b) (firstSame c a l) (ifSame (c a u) u))
+
+    -- of several that are the same, the first is found
+    first-all : (a : A) (l us : List A) → Ascending c l → firstSame c a (insertAll c l us) ≡ orElse (firstSame c a l) (firstSame c a us)
+    unfolding insertAll firstSame firstGiven
+    first-all a l [] h = sym (or-none (firstSame c a l))
+    first-all a l (u ∷ us) h =
+        first-all a (insert c u l) us (insert-ascending u l h)
+        ∙ ap (λ (o : Option A). orElse o (firstSame c a us)) (first-insert a u l h)
+        ∙ or-join (firstSame c a l) (ifSame (c a u) u) (firstSame c a us)
 
 module _ {N X : Type 0} (L : Lent) (D : Doc N X) (cs : List N) where
   key-turned : (a b : Unmapped X) → unmappedOrder D b a ≡ opposite (unmappedOrder D a b)
@@ -109,21 +113,18 @@ module _ {N X : Type 0} (L : Lent) (D : Doc N X) (cs : List N) where
   unfolding unmappedOrder
   key-joined a b d e f = rw (order-is (unmappedKey D a) (unmappedKey D b) e) f
 
+  key-less : (a b d : Unmapped X) → unmappedOrder D a b ≡ Ordering·lt → unmappedOrder D b d ≡ Ordering·lt → unmappedOrder D a d ≡ Ordering·lt
+  unfolding unmappedOrder
+  key-less a b d = order-trans (unmappedKey D a) (unmappedKey D b) (unmappedKey D d)
+
   -- unmapped names ascend by parent, then by name, each pair once
   pub unmapped-ascends : Ascending (unmappedOrder D) (readingOf L D cs .unmapped)
   unfolding readingOf
   unmapped-ascends = all-ascending (unmappedOrder D) key-turned key-joined [] (said (step L D) (straysOf L D) (blank X) cs) tt
 
-  -- each that was met is among them
-  pub unmapped-there : (a : Unmapped X) → Present (unmappedOrder D) a (said (step L D) (straysOf L D) (blank X) cs) → Present (unmappedOrder D) a (readingOf L D cs .unmapped)
+  -- for each parent and name, the row is the first that was met, place and all; there is none where none was met
+  pub unmapped-first : (a : Unmapped X) → firstSame (unmappedOrder D) a (readingOf L D cs .unmapped) ≡ firstSame (unmappedOrder D) a (met D cs)
   unfolding readingOf
-  unmapped-there a p = all-there (unmappedOrder D) key-turned key-joined a [] (said (step L D) (straysOf L D) (blank X) cs) (inr p)
-
-  -- and no other
-  pub unmapped-only : (a : Unmapped X) → Present (unmappedOrder D) a (readingOf L D cs .unmapped) → Present (unmappedOrder D) a (said (step L D) (straysOf L D) (blank X) cs)
-  unfolding readingOf
-  unmapped-only a p = go (all-only (unmappedOrder D) key-turned key-joined a [] (said (step L D) (straysOf L D) (blank X) cs) p)
-    where
-      go : Present (unmappedOrder D) a [] ⊎ Present (unmappedOrder D) a (said (step L D) (straysOf L D) (blank X) cs) → Present (unmappedOrder D) a (said (step L D) (straysOf L D) (blank X) cs)
-      go (inl q) = absurd q
-      go (inr q) = q
+  unmapped-first a =
+      first-all (unmappedOrder D) key-turned key-joined key-less a [] (said (step L D) (straysOf L D) (blank X) cs) tt
+      ∙ unfold firstSame firstGiven in ap (firstSame (unmappedOrder D) a) (said-met L D (blank X) cs)

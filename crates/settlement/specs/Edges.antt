@@ -22,11 +22,11 @@ use Rattle.settlement.specs.Tree.{Tree, node, nothing, forest, treeDoc}
 abbrev pub leaf : String → String → Tree
 leaf n x = node (bytes n) (some (bytes x)) (λ w. none) nothing
 
--- an amount in EUR
-abbrev pub inEuro : String → String → Tree
-inEuro n x = node (bytes n) (some (bytes x)) (λ w. cond (equal w (bytes "currencyID")) (some (bytes "EUR")) none) nothing
+-- an element with a text and a currencyID
+abbrev pub inCurrency : String → String → String → Tree
+inCurrency k n x = node (bytes n) (some (bytes x)) (λ w. cond (equal (bytes "currencyID") w) (some (bytes k)) none) nothing
 
--- an element with children
+-- an element without a text, with its children
 abbrev pub branch : String → List Tree → Tree
 branch n l = node (bytes n) none (λ w. none) (forest l)
 
@@ -62,6 +62,6 @@ edges =
     (vatPointDateCodeOf (bytes "3") ≡ says 15) ∷
     (reading lent treeDoc (settlement (branch "ApplicableTradeTax" (leaf "DueDateTypeCode" "3" ∷ []) ∷ [])) .entries ≡
     record { message = Message.UnknownVatPointCode; path = Path.TradeTaxDueDateTypeCode; term = Term.Bt8; index = none; value = some (bytes "3") } ∷ []) ∷
-    (reading lent treeDoc (settlement (leaf "InvoiceCurrencyCode" "EUR" ∷ leaf "TaxCurrencyCode" "EUR" ∷ branch "SpecifiedTradeSettlementHeaderMonetarySummation" (inEuro "TaxTotalAmount" "10.00" ∷ inEuro "TaxTotalAmount" "12.00" ∷ []) ∷ [])) .terms .totals ≡
+    (reading lent treeDoc (settlement (leaf "InvoiceCurrencyCode" "EUR" ∷ leaf "TaxCurrencyCode" "EUR" ∷ branch "SpecifiedTradeSettlementHeaderMonetarySummation" (inCurrency "EUR" "TaxTotalAmount" "10.00" ∷ inCurrency "EUR" "TaxTotalAmount" "12.00" ∷ []) ∷ [])) .terms .totals ≡
     record { line = pos 0; allowance = none; charge = none; taxable = pos 0; vat = some (pos 1000); vatAccounting = some (pos 1200); gross = pos 0; paid = none; rounding = none; due = pos 0 }) ∷
     []

@@ -19,5 +19,8 @@ pub mod Fits
 pub mod Inside
 pub mod ChildRows
 pub mod Transfers
+pub mod TaxTotals
+pub mod Meetings
 pub mod Edges
+pub mod Examples
 pub mod Result

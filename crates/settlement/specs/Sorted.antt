@@ -1,8 +1,15 @@
 -- Lists in order, for the law that unmapped names are a sorted set.
 use mathlib.Core.Path.{_≡_}
 use mathlib.Core.List.{List, [], _∷_}
-use mathlib.Core.Logic.{_⊎_}
-use Prim.Native.Nat.{Ordering, Ordering·lt, Ordering·eq}
+use mathlib.Core.Option.{Option, none, some}
+use Prim.Native.Nat.{Ordering, Ordering·lt, Ordering·eq, Ordering·gt}
+use Rattle.settlement.specs.Last.{firstGiven}
+
+-- b, where a comparison with it says that it is the same
+abbrev pub ifSame : {A : Type 0} → Ordering → A → Option A
+ifSame Ordering·lt b = none
+ifSame Ordering·eq b = some b
+ifSame Ordering·gt b = none
 
 module _ {A : Type 0} (c : A → A → Ordering) where
   -- a comes before the first of a list
@@ -15,7 +22,6 @@ module _ {A : Type 0} (c : A → A → Ordering) where
   Ascending [] = Unit {0}
   Ascending (a ∷ l) = Before a l × Ascending l
 
-  -- one that is the same as a, by the order, is in a list
-  abbrev pub Present : A → List A → Type 0
-  Present a [] = ⊥
-  Present a (b ∷ l) = (c a b ≡ Ordering·eq) ⊎ Present a l
+  -- the first of a list that is the same as a, by the order
+  unfoldable pub firstSame : A → List A → Option A
+  firstSame a l = firstGiven (λ b. ifSame (c a b) b) l
