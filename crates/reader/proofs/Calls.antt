@@ -41,17 +41,17 @@ keep-map f s t h (a ∷ l) = rw (h a, keep-map f s t h l) (go (s a))
     go false = refl
 
 -- what a text shows that may be absent
-abbrev cellOf : Option (List ℕ) → Cell
+abbrev pub cellOf : Option (List ℕ) → Cell
 cellOf none = absent
 cellOf (some b) = bytes b
 
 module _ (x : List ℕ) where
   -- the two numbers of a text show what its place does
-  place-shown : (p : Place) → textCell x (placeStart p) (placeLength p) ≡ bytes (shows x p)
+  pub place-shown : (p : Place) → textCell x (placeStart p) (placeLength p) ≡ bytes (shows x p)
   unfolding textCell
   place-shown p = ap bytes (tidy-shows x p)
 
-  text-shown : (t : Option Place) → textCell x (textStart t) (textLength t) ≡ cellOf (Option·map (shows x) t)
+  pub text-shown : (t : Option Place) → textCell x (textStart t) (textLength t) ≡ cellOf (Option·map (shows x) t)
   unfolding textCell
   text-shown none = refl
   text-shown (some p) = place-shown p

@@ -1,11 +1,12 @@
 -- Two calls of the reader, compared by the numbers that they leave in the lent lists (document 01, "Rows": by what spans show, absent apart from empty, not by their places).
 use mathlib.Core.Path.{_≡_}
 use mathlib.Core.List.{List, [], _∷_, map, Perm}
-use Prim.Native.Nat.{ℕ}
+use Prim.Native.Nat.{ℕ, _*_, _≤_}
 use lib.Dec.{eqb}
 use lib.IntN.{ℤ, pos, negsuc}
 use lib.ListN.{getD}
 use Rattle.text.specs.Span.{clipped}
+use Rattle.table.specs.Table.{records}
 use Rattle.report.specs.Encoding.{heldWidth, entryWidth, unmappedWidth, cutRows}
 use Rattle.settlement.specs.Shapes.{Terms}
 use Rattle.settlement.specs.Values.{Lent}
@@ -125,6 +126,12 @@ pub record SameRows (c d : Exit) : Type 0 where
   pub held : shownHeld c ≡ shownHeld d
   pub unmapped : shownUnmapped c ≡ shownUnmapped d
   pub entries : shownEntries c ≡ shownEntries d
+
+-- a held row, four entries and an unmapped row for each record of a table, at most
+pub record Afforded (t : List ℕ) (c : Exit) : Type 0 where
+  pub held : c .heldCount ≤ records t
+  pub entries : c .entryCount ≤ 4 * records t
+  pub unmapped : c .unmappedCount ≤ records t
 
 -- a call: table and text, the three lists at entry, the answer, and the three lists at exit
 pub record Call : Type 0 where
