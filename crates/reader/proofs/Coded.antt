@@ -19,7 +19,7 @@ use Rattle.settlement.specs.Shapes.{Identifier, Payee, Means, unset, card, debi
 use Rattle.settlement.specs.Values.{Lent}
 use Rattle.settlement.specs.Outcome.{outcome}
 use Rattle.settlement.specs.Result.{Result, resultOf}
-use Rattle.groups.specs.Groups.{identifierOf, maybeIdentifierOf}
+use Rattle.groups.specs.Groups.{maybeIdentifierOf}
 use Rattle.groups.specs.Taxes.{pointCodeOf}
 use Rattle.groups.specs.declared.shapes.MaybeIdentifier.{MaybeIdentifier}
 use Rattle.groups.specs.declared.shapes.MaybeIdentifier.the-variants as MaybeIdentifier

@@ -3,14 +3,14 @@ use mathlib.Core.Path.{_≡_, refl, sym, ap, _∙_}
 use mathlib.Core.List.{List, [], _∷_, _++_, map, append-assoc, List·Permᴰ, List·Permᴰ·nil, List·Permᴰ·cons, List·Permᴰ·swap, List·Permᴰ·trans, Perm}
 use mathlib.Core.Logic.{∥∥₁-elim}
 use mathlib.Core.Option.{Option, none, some, Option·map}
-use Prim.Native.Nat.{ℕ, suc, _+_, _*_}
+use Prim.Native.Nat.{ℕ, suc, _+_}
 use native.Mathlib.Nat.{ℕ-set}
 use native.Mathlib.Omega.{arith}
 use lib.IntN.{ℤ, pos}
 use lib.ListN.{length, length-map, getD}
 use Rattle.report.specs.Rows.{Place, Held, transfer, vat, allowance, charge, preceding, mapEntry, mapHeld, mapUnmapped}
 use Rattle.report.specs.Encoding.{textCells, orAbsent, rowsThen}
-use Rattle.settlement.specs.Shapes.{Identifier, Payee, Means, unset, card, debit, transfers, Period, Totals, Terms, Reading}
+use Rattle.settlement.specs.Shapes.{Identifier, Payee, Means, unset, card, debit, transfers, Period, Terms, Reading}
 use Rattle.settlement.specs.Values.{Lent}
 use Rattle.settlement.specs.Settlement.{reading}
 use Rattle.settlement.specs.TableDoc.{shows, tableDoc}
@@ -94,9 +94,13 @@ module _ (x : List ℕ) where
   unfolding shownRow textCell mapPayee
   payee-shown none c v = refl
   payee-shown (some p) c v =
-      rw
-      (text-shown x (p .name), append-assoc (identifierCells (p .identifier)) (identifierCells (p .legal)) v, identifier-shown (p .identifier) (identifierColumns ++ c) (identifierCells (p .legal) ++ v), identifier-shown (p .legal) c v,
-      append-assoc (identifierShown (Option·map (mapIdentifier (shows x)) (p .identifier))) (identifierShown (Option·map (mapIdentifier (shows x)) (p .legal))) (shownRow c x v))
+      rw (
+        text-shown x (p .name),
+        append-assoc (identifierCells (p .identifier)) (identifierCells (p .legal)) v,
+        identifier-shown (p .identifier) (identifierColumns ++ c) (identifierCells (p .legal) ++ v),
+        identifier-shown (p .legal) c v,
+        append-assoc (identifierShown (Option·map (mapIdentifier (shows x)) (p .identifier))) (identifierShown (Option·map (mapIdentifier (shows x)) (p .legal))) (shownRow c x v),
+      )
 
   period-shown : (p : Option Period) (c : List Column) (v : List ℤ) → shownRow (periodColumns ++ c) x (periodCells p ++ v) ≡ map number (periodCells p) ++ shownRow c x v
   unfolding shownRow

@@ -1,4 +1,4 @@
--- A witness of demand 3 at a host's calls: two calls that read the tables of settlement's witness into lists of the least room, which held other numbers.
+-- Witnesses of demand 3 at a host's calls: calls that read the tables of settlement's witness into lists of the least room, which held other numbers.
 use mathlib.Core.Path.{_≡_, refl, ap}
 use mathlib.Core.List.{List}
 use Prim.Native.Nat.{ℕ}
@@ -10,8 +10,8 @@ use Rattle.settlement.specs.Result.{Result, resultOf, answerRow}
 use Rattle.settlement.proofs.Witness.{lent, left-table, left-text, right-table, right-text, witness}
 use Rattle.reader.specs.Answered.{roomOf}
 use Rattle.reader.proofs.Witness.{heldWith, entriesWith, unmappedWith, left-zero, right-zero}
-use Rattle.rulzhamm.specs.Calls.{HostCall, HostPromised, numberAt, AlikeHostCalls}
-use Rattle.rulzhamm.proofs.Calls.{host-calls-order-free}
+use Rattle.rulzhamm.specs.Calls.{HostCall, HostPromised, numberAt, AlikeHostCalls, SameHostCalls}
+use Rattle.rulzhamm.proofs.Calls.{host-calls-same, host-calls-order-free}
 
 module _ (L : Lent) (t x : List ℕ) (h e u : List ℤ) where
   abbrev result : Result
@@ -36,20 +36,25 @@ module _ (L : Lent) (t x : List ℕ) (h e u : List ℤ) where
   pub host-call-promised : HostPromised L hostCallOf
   host-call-promised = record { answer = refl; heldRows = refl; entryRows = refl; unmappedRows = refl }
 
-abbrev left-call : HostCall
-left-call = hostCallOf lent left-table left-text (heldWith 7) (entriesWith 7) (unmappedWith 7)
+abbrev leftCall : ℕ → HostCall
+leftCall n = hostCallOf lent left-table left-text (heldWith n) (entriesWith n) (unmappedWith n)
 
-abbrev right-call : HostCall
-right-call = hostCallOf lent right-table right-text (heldWith 9) (entriesWith 9) (unmappedWith 9)
+abbrev rightCall : ℕ → HostCall
+rightCall n = hostCallOf lent right-table right-text (heldWith n) (entriesWith n) (unmappedWith n)
 
--- both were read
-left-accepted : numberAt left-call 0 ≡ pos 0
+-- all were read
+left-accepted : (n : ℕ) → numberAt (leftCall n) 0 ≡ pos 0
 unfolding answerRow
-left-accepted = ap pos left-zero
+left-accepted n = ap pos (left-zero n)
 
-right-accepted : numberAt right-call 0 ≡ pos 0
+right-accepted : (n : ℕ) → numberAt (rightCall n) 0 ≡ pos 0
 unfolding answerRow
-right-accepted = ap pos right-zero
+right-accepted n = ap pos (right-zero n)
 
-pub host-calls-witness : AlikeHostCalls left-call right-call
-host-calls-witness = host-calls-order-free lent left-call right-call (host-call-promised lent _ _ _ _ _) (host-call-promised lent _ _ _ _ _) left-accepted right-accepted witness
+-- two calls whose trees differ by an exchange
+pub host-calls-witness : AlikeHostCalls (leftCall 7) (rightCall 9)
+host-calls-witness = host-calls-order-free lent (leftCall 7) (rightCall 9) (host-call-promised lent _ _ _ _ _) (host-call-promised lent _ _ _ _ _) (left-accepted 7) (right-accepted 9) witness
+
+-- two whose trees are equal
+pub same-host-calls-witness : SameHostCalls (leftCall 7) (leftCall 9)
+same-host-calls-witness = host-calls-same lent (leftCall 7) (leftCall 9) (host-call-promised lent _ _ _ _ _) (host-call-promised lent _ _ _ _ _) (left-accepted 7) (left-accepted 9) refl
