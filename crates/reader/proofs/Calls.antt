@@ -6,13 +6,13 @@ use mathlib.Core.Option.{Option, none, some, Option·map}
 use Prim.Native.Nat.{ℕ}
 use lib.Dec.{eqb}
 use lib.IntN.{ℤ, pos}
-use lib.ListN.{replicate}
+use lib.ListN.{length, replicate}
 use Rattle.names.specs.Message.{messageNumber}
 use Rattle.names.specs.Path.{pathNumber}
 use Rattle.names.specs.Term.{termNumber}
 use Rattle.names.specs.Parent.{parentNumber}
 use Rattle.report.specs.Rows.{Place, Entry, AllowanceCharge, Held, transfer, vat, allowance, charge, preceding, Unmapped, mapEntry, mapTransfer, mapVat, mapAllowanceCharge, mapPreceding, mapHeld, mapUnmapped}
-use Rattle.report.specs.Encoding.{heldWidth, entryWidth, unmappedWidth, placeStart, placeLength, textStart, textLength, unscaled, scale, present, hundredths, orAbsent, heldRow, entryRow, unmappedRow, rowsThen}
+use Rattle.report.specs.Encoding.{heldWidth, entryWidth, unmappedWidth, placeStart, placeLength, textStart, textLength, unscaled, scale, present, hundredths, orAbsent, heldRow, entryRow, unmappedRow, rowsOf, rowsThen}
 use Rattle.report.proofs.RowsOf.{cut-exit}
 use Rattle.report.proofs.Widths.{held-width, entry-width, unmapped-width}
 use Rattle.settlement.specs.Shapes.{Reading}
@@ -21,14 +21,14 @@ use Rattle.settlement.specs.Settlement.{reading}
 use Rattle.settlement.specs.TableDoc.{shows, tableDoc}
 use Rattle.settlement.specs.Tree.{treeDoc, treeOf}
 use Rattle.settlement.specs.Shown.{mapReading}
-use Rattle.settlement.specs.Outcome.{Outcome, read, outcome, shown}
+use Rattle.settlement.specs.Outcome.{read, outcome, shown}
 use Rattle.settlement.specs.Result.{Result, resultOf}
-use Rattle.settlement.specs.Alike.{rowKind, keep, ofKind}
+use Rattle.settlement.specs.Alike.{rowKind, keep, ofKind, Alike}
 use Rattle.settlement.specs.Exchange.{Exchanged}
 use Rattle.settlement.proofs.AnyOrder.{same-settlement, order-free}
 use Rattle.settlement.proofs.Results.{outcome-zero, tidy-shows}
 use Rattle.reader.specs.Answered.{roomOf}
-use Rattle.reader.specs.Calls.{Cell, number, absent, bytes, textCell, shownRow, entryColumns, unmappedColumns, kindOf, shownHeldRow, Call, Promised, shownTerms, heldIn, shownHeld, shownOfKind, shownEntries, shownUnmapped, AlikeCalls, SameCalls}
+use Rattle.reader.specs.Calls.{Cell, number, absent, bytes, textCell, shownRow, entryColumns, unmappedColumns, kindOf, shownHeldRow, Exit, heldIn, shownHeld, shownOfKind, shownEntries, shownUnmapped, AlikeRows, SameRows, Call, Promised, exitOf, shownTerms, AlikeCalls, SameCalls}
 
 -- rows that pass a test, and what passes it
 keep-map : {A B : Type 0} (f : A → B) (s : A → Bool) (t : B → Bool) → ((a : A) → t (f a) ≡ s a) → (l : List A) → keep t (map f l) ≡ map f (keep s l)
@@ -41,17 +41,17 @@ keep-map f s t h (a ∷ l) = rw (h a, keep-map f s t h l) (go (s a))
     go false = refl
 
 -- what a text shows that may be absent
-abbrev cellOf : Option (List ℕ) → Cell
+abbrev pub cellOf : Option (List ℕ) → Cell
 cellOf none = absent
 cellOf (some b) = bytes b
 
 module _ (x : List ℕ) where
   -- the two numbers of a text show what its place does
-  place-shown : (p : Place) → textCell x (placeStart p) (placeLength p) ≡ bytes (shows x p)
+  pub place-shown : (p : Place) → textCell x (placeStart p) (placeLength p) ≡ bytes (shows x p)
   unfolding textCell
   place-shown p = ap bytes (tidy-shows x p)
 
-  text-shown : (t : Option Place) → textCell x (textStart t) (textLength t) ≡ cellOf (Option·map (shows x) t)
+  pub text-shown : (t : Option Place) → textCell x (textStart t) (textLength t) ≡ cellOf (Option·map (shows x) t)
   unfolding textCell
   text-shown none = refl
   text-shown (some p) = place-shown p
@@ -114,51 +114,89 @@ map-kind f (allowance a) = refl
 map-kind f (charge a) = refl
 map-kind f (preceding p) = refl
 
--- a call that read: its numbers show what its reading does
-module _ (L : Lent) (c : Call) (p : Promised L c) (e : c .answer .refusal ≡ 0) where
-  abbrev ofCall : Outcome
-  ofCall = outcome L (roomOf (c .held) (c .entries) (c .unmapped)) (c .table) (c .text)
+-- lists that were lent as h, e and u and left with the rows of a reading
+pub record Left (r : Reading Place) (h e u : List ℤ) (c : Exit) : Type 0 where
+  pub heldCount : c .heldCount ≡ length (r .held)
+  pub entryCount : c .entryCount ≡ length (r .entries)
+  pub unmappedCount : c .unmappedCount ≡ length (r .unmapped)
+  pub heldRows : c .held ≡ rowsThen (rowsOf heldRow (r .held)) h
+  pub entryRows : c .entries ≡ rowsThen (rowsOf entryRow (r .entries)) e
+  pub unmappedRows : c .unmapped ≡ rowsThen (rowsOf unmappedRow (r .unmapped)) u
 
+-- their numbers show what the reading does
+module _ {r : Reading Place} {h e u : List ℤ} {c : Exit} (p : Left r h e u c) where
+  held-in : heldIn c ≡ map heldRow (r .held)
+  unfolding heldIn
+  held-in = cut-exit heldRow heldWidth held-width (r .held) h (p .heldCount) (p .heldRows)
+
+  held-are : shownHeld c ≡ map heldCells (shown (c .text) r .held)
+  unfolding shownHeld shown mapReading
+  held-are = ap (map (shownHeldRow (c .text))) held-in ∙ rows-shown heldRow (shownHeldRow (c .text)) (mapHeld (shows (c .text))) heldCells (held-shown (c .text)) (r .held)
+
+  kind-are : (j : ℕ) → shownOfKind j c ≡ map heldCells (ofKind j (shown (c .text) r .held))
+  unfolding shownOfKind shown mapReading ofKind
+  kind-are j =
+      ap (λ (l : List (List ℤ)). map (shownHeldRow (c .text)) (keep (λ v. eqb (kindOf v) j) l)) held-in ∙
+      ap (map (shownHeldRow (c .text))) (keep-map heldRow (λ h. eqb (rowKind h) j) (λ v. eqb (kindOf v) j) (λ h. ap (λ (k : ℕ). eqb k j) (row-kind h)) (r .held)) ∙
+      rows-shown heldRow (shownHeldRow (c .text)) (mapHeld (shows (c .text))) heldCells (held-shown (c .text)) (keep (λ h. eqb (rowKind h) j) (r .held)) ∙
+      ap (map heldCells) (sym (keep-map (mapHeld (shows (c .text))) (λ h. eqb (rowKind h) j) (λ h. eqb (rowKind h) j) (λ h. ap (λ (k : ℕ). eqb k j) (map-kind (shows (c .text)) h)) (r .held)))
+
+  entries-are : shownEntries c ≡ map entryCells (shown (c .text) r .entries)
+  unfolding shownEntries shown mapReading
+  entries-are =
+      ap (map (shownRow entryColumns (c .text))) (cut-exit entryRow entryWidth entry-width (r .entries) e (p .entryCount) (p .entryRows)) ∙
+      rows-shown entryRow (shownRow entryColumns (c .text)) (mapEntry (shows (c .text))) entryCells (entry-shown (c .text)) (r .entries)
+
+  unmapped-are : shownUnmapped c ≡ map unmappedCells (shown (c .text) r .unmapped)
+  unfolding shownUnmapped shown mapReading
+  unmapped-are =
+      ap (map (shownRow unmappedColumns (c .text))) (cut-exit unmappedRow unmappedWidth unmapped-width (r .unmapped) u (p .unmappedCount) (p .unmappedRows)) ∙
+      rows-shown unmappedRow (shownRow unmappedColumns (c .text)) (mapUnmapped (shows (c .text))) unmappedCells (unmapped-shown (c .text)) (r .unmapped)
+
+-- so readings that show the same leave rows that do
+module _ {r q : Reading Place} {h e u h′ e′ u′ : List ℤ} {c d : Exit} (p : Left r h e u c) (k : Left q h′ e′ u′ d) where
+  pub same-rows : shown (c .text) r ≡ shown (d .text) q → SameRows c d
+  same-rows a =
+      record {
+        held = held-are p ∙ ap (λ (r : Reading (List ℕ)). map heldCells (r .held)) a ∙ sym (held-are k);
+        unmapped = unmapped-are p ∙ ap (λ (r : Reading (List ℕ)). map unmappedCells (r .unmapped)) a ∙ sym (unmapped-are k);
+        entries = entries-are p ∙ ap (λ (r : Reading (List ℕ)). map entryCells (r .entries)) a ∙ sym (entries-are k);
+      }
+
+  pub alike-rows : Alike (shown (c .text) r) (shown (d .text) q) → AlikeRows c d
+  alike-rows a =
+      record {
+        held = λ j. kind-are p j ∙ ap (map heldCells) (a .held j) ∙ sym (kind-are k j);
+        unmapped = unmapped-are p ∙ ap (map unmappedCells) (a .unmapped) ∙ sym (unmapped-are k);
+        entries = rw (entries-are p, entries-are k) (Perm·map entryCells (a .entries));
+      }
+
+-- a call that read: it leaves what its reading says
+module _ (L : Lent) (c : Call) (p : Promised L c) (e : c .answer .refusal ≡ 0) where
   abbrev readingOf : Reading Place
   readingOf = reading L (tableDoc (c .table) (c .text)) 0
 
-  call-read : ofCall ≡ read readingOf
+  call-read : outcome L (roomOf (c .held) (c .entries) (c .unmapped)) (c .table) (c .text) ≡ read readingOf
   call-read = outcome-zero L _ (c .table) (c .text) (sym (p .refusal) ∙ e)
 
-  result : resultOf ofCall ≡ resultOf (read readingOf)
+  result : resultOf (outcome L (roomOf (c .held) (c .entries) (c .unmapped)) (c .table) (c .text)) ≡ resultOf (read readingOf)
   result = ap resultOf call-read
 
   terms-are : shownTerms c ≡ shown (c .text) readingOf .terms
   unfolding shownTerms shown mapReading resultOf
   terms-are = rw (p .terms ∙ ap (λ (r : Result). r .terms) result)
 
-  held-in : heldIn c ≡ map heldRow (readingOf .held)
-  unfolding heldIn resultOf
-  held-in = cut-exit heldRow heldWidth held-width (readingOf .held) (c .held) (p .heldCount ∙ ap (λ (r : Result). r .heldCount) result) (p .heldRows ∙ ap (λ (r : Result). rowsThen (r .held) (c .held)) result)
-
-  held-are : shownHeld c ≡ map heldCells (shown (c .text) readingOf .held)
-  unfolding shownHeld shown mapReading
-  held-are = ap (map (shownHeldRow (c .text))) held-in ∙ rows-shown heldRow (shownHeldRow (c .text)) (mapHeld (shows (c .text))) heldCells (held-shown (c .text)) (readingOf .held)
-
-  kind-are : (j : ℕ) → shownOfKind j c ≡ map heldCells (ofKind j (shown (c .text) readingOf .held))
-  unfolding shownOfKind shown mapReading ofKind
-  kind-are j =
-      ap (λ (l : List (List ℤ)). map (shownHeldRow (c .text)) (keep (λ v. eqb (kindOf v) j) l)) held-in ∙
-      ap (map (shownHeldRow (c .text))) (keep-map heldRow (λ h. eqb (rowKind h) j) (λ v. eqb (kindOf v) j) (λ h. ap (λ (k : ℕ). eqb k j) (row-kind h)) (readingOf .held)) ∙
-      rows-shown heldRow (shownHeldRow (c .text)) (mapHeld (shows (c .text))) heldCells (held-shown (c .text)) (keep (λ h. eqb (rowKind h) j) (readingOf .held)) ∙
-      ap (map heldCells) (sym (keep-map (mapHeld (shows (c .text))) (λ h. eqb (rowKind h) j) (λ h. eqb (rowKind h) j) (λ h. ap (λ (k : ℕ). eqb k j) (map-kind (shows (c .text)) h)) (readingOf .held)))
-
-  entries-are : shownEntries c ≡ map entryCells (shown (c .text) readingOf .entries)
-  unfolding shownEntries shown mapReading resultOf
-  entries-are =
-      ap (map (shownRow entryColumns (c .text))) (cut-exit entryRow entryWidth entry-width (readingOf .entries) (c .entries) (p .entryCount ∙ ap (λ (r : Result). r .entryCount) result) (p .entryRows ∙ ap (λ (r : Result). rowsThen (r .entries) (c .entries)) result))
-      ∙ rows-shown entryRow (shownRow entryColumns (c .text)) (mapEntry (shows (c .text))) entryCells (entry-shown (c .text)) (readingOf .entries)
-
-  unmapped-are : shownUnmapped c ≡ map unmappedCells (shown (c .text) readingOf .unmapped)
-  unfolding shownUnmapped shown mapReading resultOf
-  unmapped-are =
-      ap (map (shownRow unmappedColumns (c .text))) (cut-exit unmappedRow unmappedWidth unmapped-width (readingOf .unmapped) (c .unmapped) (p .unmappedCount ∙ ap (λ (r : Result). r .unmappedCount) result) (p .unmappedRows ∙ ap (λ (r : Result). rowsThen (r .unmapped) (c .unmapped)) result))
-      ∙ rows-shown unmappedRow (shownRow unmappedColumns (c .text)) (mapUnmapped (shows (c .text))) unmappedCells (unmapped-shown (c .text)) (readingOf .unmapped)
+  left : Left readingOf (c .held) (c .entries) (c .unmapped) (exitOf c)
+  unfolding resultOf
+  left =
+      record {
+        heldCount = p .heldCount ∙ ap (λ (r : Result). r .heldCount) result;
+        entryCount = p .entryCount ∙ ap (λ (r : Result). r .entryCount) result;
+        unmappedCount = p .unmappedCount ∙ ap (λ (r : Result). r .unmappedCount) result;
+        heldRows = p .heldRows ∙ ap (λ (r : Result). rowsThen (r .held) (c .held)) result;
+        entryRows = p .entryRows ∙ ap (λ (r : Result). rowsThen (r .entries) (c .entries)) result;
+        unmappedRows = p .unmappedRows ∙ ap (λ (r : Result). rowsThen (r .unmapped) (c .unmapped)) result;
+      }
 
 -- two calls under the same mode, rules number, currency and identifier that read, the lists at entry being any
 module _ (L : Lent) (c d : Call) (p : Promised L c) (q : Promised L d) (e : c .answer .refusal ≡ 0) (f : d .answer .refusal ≡ 0) where
@@ -170,9 +208,7 @@ module _ (L : Lent) (c d : Call) (p : Promised L c) (q : Promised L d) (e : c .a
         left = e;
         right = f;
         terms = terms-are L c p e ∙ ap (λ (r : Reading (List ℕ)). r .terms) a ∙ sym (terms-are L d q f);
-        held = held-are L c p e ∙ ap (λ (r : Reading (List ℕ)). map heldCells (r .held)) a ∙ sym (held-are L d q f);
-        unmapped = unmapped-are L c p e ∙ ap (λ (r : Reading (List ℕ)). map unmappedCells (r .unmapped)) a ∙ sym (unmapped-are L d q f);
-        entries = entries-are L c p e ∙ ap (λ (r : Reading (List ℕ)). map entryCells (r .entries)) a ∙ sym (entries-are L d q f);
+        rows = same-rows (left L c p e) (left L d q f) a;
       }
 
   -- and except for an exchange, numbers that show the same but for the order of rows
@@ -183,7 +219,5 @@ module _ (L : Lent) (c d : Call) (p : Promised L c) (q : Promised L d) (e : c .a
         left = e;
         right = f;
         terms = terms-are L c p e ∙ a .terms ∙ sym (terms-are L d q f);
-        held = λ j. kind-are L c p e j ∙ ap (map heldCells) (a .held j) ∙ sym (kind-are L d q f j);
-        unmapped = unmapped-are L c p e ∙ ap (map unmappedCells) (a .unmapped) ∙ sym (unmapped-are L d q f);
-        entries = rw (entries-are L c p e, entries-are L d q f) (Perm·map entryCells (a .entries));
+        rows = alike-rows (left L c p e) (left L d q f) a;
       }

@@ -1,11 +1,12 @@
 -- Two calls of the reader, compared by the numbers that they leave in the lent lists (document 01, "Rows": by what spans show, absent apart from empty, not by their places).
 use mathlib.Core.Path.{_≡_}
 use mathlib.Core.List.{List, [], _∷_, map, Perm}
-use Prim.Native.Nat.{ℕ}
+use Prim.Native.Nat.{ℕ, _*_, _≤_}
 use lib.Dec.{eqb}
 use lib.IntN.{ℤ, pos, negsuc}
 use lib.ListN.{getD}
 use Rattle.text.specs.Span.{clipped}
+use Rattle.table.specs.Table.{records}
 use Rattle.report.specs.Encoding.{heldWidth, entryWidth, unmappedWidth, cutRows}
 use Rattle.settlement.specs.Shapes.{Terms}
 use Rattle.settlement.specs.Values.{Lent}
@@ -71,15 +72,66 @@ precedingColumns = plain ∷ text ∷ []
 abbrev pub heldColumns : ℕ → List Column
 heldColumns k = getD ([] ∷ transferColumns ∷ vatColumns ∷ allowanceChargeColumns ∷ allowanceChargeColumns ∷ precedingColumns ∷ []) k []
 
+-- a number of a row as a count; one below 0 counts nothing
+abbrev pub natural : ℤ → ℕ
+natural (pos n) = n
+natural (negsuc n) = 0
+
 -- a held row's first number is its kind
 abbrev pub kindOf : List ℤ → ℕ
-kindOf (pos k ∷ v) = k
-kindOf (negsuc k ∷ v) = 0
-kindOf [] = 0
+kindOf v = natural (getD v 0 (pos 0))
 
 -- a held row through a text, by its kind
 abbrev pub shownHeldRow : List ℕ → List ℤ → List Cell
 shownHeldRow x v = shownRow (heldColumns (kindOf v)) x v
+
+-- what a call leaves: its text, how many rows of each list it answers, and the three lists at exit
+pub record Exit : Type 0 where
+  pub text : List ℕ
+  pub heldCount : ℕ
+  pub entryCount : ℕ
+  pub unmappedCount : ℕ
+  pub held : List ℤ
+  pub entries : List ℤ
+  pub unmapped : List ℤ
+
+-- the held rows in its list, as many as it answers
+unfoldable pub heldIn : Exit → List (List ℤ)
+heldIn c = cutRows heldWidth (c .heldCount) (c .held)
+
+-- as its text shows them
+unfoldable pub shownHeld : Exit → List (List Cell)
+shownHeld c = map (shownHeldRow (c .text)) (heldIn c)
+
+-- those of one kind
+unfoldable pub shownOfKind : ℕ → Exit → List (List Cell)
+shownOfKind j c = map (shownHeldRow (c .text)) (keep (λ v. eqb (kindOf v) j) (heldIn c))
+
+-- the entries
+unfoldable pub shownEntries : Exit → List (List Cell)
+shownEntries c = map (shownRow entryColumns (c .text)) (cutRows entryWidth (c .entryCount) (c .entries))
+
+-- the unmapped names
+unfoldable pub shownUnmapped : Exit → List (List Cell)
+shownUnmapped c = map (shownRow unmappedColumns (c .text)) (cutRows unmappedWidth (c .unmappedCount) (c .unmapped))
+
+-- rows that show the same but for their order: held rows of each kind and unmapped names in order, entries in any
+pub record AlikeRows (c d : Exit) : Type 0 where
+  pub held : (j : ℕ) → shownOfKind j c ≡ shownOfKind j d
+  pub unmapped : shownUnmapped c ≡ shownUnmapped d
+  pub entries : Perm (shownEntries c) (shownEntries d)
+
+-- rows that show the same in the same order
+pub record SameRows (c d : Exit) : Type 0 where
+  pub held : shownHeld c ≡ shownHeld d
+  pub unmapped : shownUnmapped c ≡ shownUnmapped d
+  pub entries : shownEntries c ≡ shownEntries d
+
+-- a held row, four entries and an unmapped row for each record of a table, at most
+pub record Afforded (t : List ℕ) (c : Exit) : Type 0 where
+  pub held : c .heldCount ≤ records t
+  pub entries : c .entryCount ≤ 4 * records t
+  pub unmapped : c .unmappedCount ≤ records t
 
 -- a call: table and text, the three lists at entry, the answer, and the three lists at exit
 pub record Call : Type 0 where
@@ -97,44 +149,33 @@ pub record Call : Type 0 where
 abbrev pub Promised : Lent → Call → Type 0
 Promised L c = Answered (outcome L (roomOf (c .held) (c .entries) (c .unmapped)) (c .table) (c .text)) (c .answer) (c .held) (c .held′) (c .entries) (c .entries′) (c .unmapped) (c .unmapped′)
 
+-- what it leaves
+abbrev pub exitOf : Call → Exit
+exitOf c =
+    record {
+      text = c .text;
+      heldCount = c .answer .held;
+      entryCount = c .answer .entries;
+      unmappedCount = c .answer .unmapped;
+      held = c .held′;
+      entries = c .entries′;
+      unmapped = c .unmapped′;
+    }
+
 -- the terms of its answer, as its text shows them
 unfoldable pub shownTerms : Call → Terms (List ℕ)
 shownTerms c = mapTerms (shows (c .text)) (termsOf (c .answer .terms))
 
--- the held rows in its list at exit, as many as it answers
-unfoldable pub heldIn : Call → List (List ℤ)
-heldIn c = cutRows heldWidth (c .answer .held) (c .held′)
-
--- as its text shows them
-unfoldable pub shownHeld : Call → List (List Cell)
-shownHeld c = map (shownHeldRow (c .text)) (heldIn c)
-
--- those of one kind
-unfoldable pub shownOfKind : ℕ → Call → List (List Cell)
-shownOfKind j c = map (shownHeldRow (c .text)) (keep (λ v. eqb (kindOf v) j) (heldIn c))
-
--- the entries
-unfoldable pub shownEntries : Call → List (List Cell)
-shownEntries c = map (shownRow entryColumns (c .text)) (cutRows entryWidth (c .answer .entries) (c .entries′))
-
--- the unmapped names
-unfoldable pub shownUnmapped : Call → List (List Cell)
-shownUnmapped c = map (shownRow unmappedColumns (c .text)) (cutRows unmappedWidth (c .answer .unmapped) (c .unmapped′))
-
--- both were read, and their numbers show the same but for the order of rows: terms, held rows of each kind and unmapped names in order, entries in any
+-- both were read, their terms show the same, and their rows do but for the order
 pub record AlikeCalls (c d : Call) : Type 0 where
   pub left : c .answer .refusal ≡ 0
   pub right : d .answer .refusal ≡ 0
   pub terms : shownTerms c ≡ shownTerms d
-  pub held : (j : ℕ) → shownOfKind j c ≡ shownOfKind j d
-  pub unmapped : shownUnmapped c ≡ shownUnmapped d
-  pub entries : Perm (shownEntries c) (shownEntries d)
+  pub rows : AlikeRows (exitOf c) (exitOf d)
 
--- both were read, and their numbers show the same in the same order
+-- both were read, and their terms and their rows in order show the same
 pub record SameCalls (c d : Call) : Type 0 where
   pub left : c .answer .refusal ≡ 0
   pub right : d .answer .refusal ≡ 0
   pub terms : shownTerms c ≡ shownTerms d
-  pub held : shownHeld c ≡ shownHeld d
-  pub unmapped : shownUnmapped c ≡ shownUnmapped d
-  pub entries : shownEntries c ≡ shownEntries d
+  pub rows : SameRows (exitOf c) (exitOf d)

@@ -30,7 +30,7 @@ use Rattle.rulzhamm.specs.Parts.{plainCells, paymentCells, countCells, a
 use Rattle.settlement.proofs.Sizes.{place-small, counts-small}
 
 -- lists one after the other, the later ones put together first
-regroup : (p a b c d e m x y t : List ℤ) → p ++ (a ++ (b ++ ((c ++ d ++ e) ++ (m ++ (x ++ (y ++ t)))))) ≡ p ++ a ++ b ++ c ++ d ++ e ++ m ++ x ++ y ++ t
+pub regroup : (p a b c d e m x y t : List ℤ) → p ++ (a ++ (b ++ ((c ++ d ++ e) ++ (m ++ (x ++ (y ++ t)))))) ≡ p ++ a ++ b ++ c ++ d ++ e ++ m ++ x ++ y ++ t
 regroup p a b c d e m x y t = simp append-assoc
 
 -- the parts of the terms, one after the other
