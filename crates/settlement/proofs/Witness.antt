@@ -1,5 +1,6 @@
 -- A witness of demand 3: two accepted tables, laid out differently, that describe the same settlement except for an exchange, and whose entries come in another order.
 use mathlib.Core.Path.{_≡_, refl, ap}
+use mathlib.Core.Bool.{false}
 use mathlib.Core.List.{List, [], _∷_, map}
 use mathlib.Core.Logic.{_≢_, inl, inr}
 use Prim.Native.Nat.{ℕ}
@@ -29,7 +30,7 @@ use Rattle.settlement.specs.Exchange.{LeftOut, Exchanged}
 
 -- mode 0, all rules in force
 abbrev pub lent : Lent
-lent = record { mode = 0; rules = 4095; currency = []; identifier = [] }
+lent = record { mode = 0; rules = 4095; currency = []; extension = false }
 
 -- room for four records
 abbrev pub room : Room
