@@ -4,7 +4,6 @@ use mathlib.Core.Bool.{Bool, true, false, cond}
 use mathlib.Core.List.{[], _∷_}
 use mathlib.Core.Option.{Option, none, some}
 use Prim.Native.Nat.{ℕ}
-use Rattle.codes.specs.Conformant.{conformant}
 use Rattle.report.specs.Rows.{Place, AllowanceCharge, charge}
 use Rattle.settlement.specs.Document.{Doc, maybe}
 use Rattle.settlement.specs.Shapes.{Counts, Act}
@@ -45,7 +44,7 @@ module _ (L : Lent) (D : Doc ℕ Place) (s : Counts) (n : ℕ) where
 
   logistics-is : made (logisticsSays L D (s .charges) n) ≡ logistics L D s n
   unfolding logisticsSays logisticsRow logistics logisticsRead logisticsLeft
-  logistics-is = go (conformant (L .identifier))
+  logistics-is = go (L .extension)
     where
       go : (b : Bool) → made (cond b (some (logisticsRow L D (s .charges) n .0), logisticsRow L D (s .charges) n .1) (none, logisticsLeft s .says)) ≡ cond b (logisticsRead L D s n) (logisticsLeft s)
       go true = refl

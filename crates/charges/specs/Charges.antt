@@ -5,7 +5,6 @@ use mathlib.Core.Option.{Option, none, some}
 use Prim.Native.Nat.{ℕ}
 use lib.IntN.{ℤ}
 use Rattle.text.specs.Utf8.{bytes}
-use Rattle.codes.specs.Conformant.{conformant}
 use Rattle.names.specs.declared.message.Message.the-variants as Message
 use Rattle.names.specs.declared.path.Path.{Path}
 use Rattle.names.specs.declared.path.Path.the-variants as Path
@@ -100,5 +99,5 @@ module _ (L : Lent) (D : Doc ℕ Place) where
   -- a logistics charge: its row where the identifier is that of a conformant extension, else message 20 alone
   unfoldable pub logisticsSays : ℕ → ℕ → Says Place (Option (AllowanceCharge Place))
   logisticsSays g n =
-      cond (conformant (L .identifier)) (some (logisticsRow g n .0), logisticsRow g n .1)
+      cond (L .extension) (some (logisticsRow g n .0), logisticsRow g n .1)
       (none, entry Message.LogisticsCharge (site Path.SettlementLogisticsCharge Term.None) none ∷ [])

@@ -22,11 +22,7 @@ fn absent(entries: &mut [i64], at: usize, rules: u32, parent: Path, g: Group) ->
     let term = g.category;
     let site = values::grouped(parent, term, g.index);
     CategorySaid {
-        category: Place {
-            start: 0,
-            skip: 0,
-            len: 0,
-        },
+        category: Place::new(0, 0, 0),
         rate: Percent::Absent,
         at: values::missing(entries, at, rules, rule, site),
     }

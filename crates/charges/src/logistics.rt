@@ -130,15 +130,15 @@ pub fn logistics_charge(
     mode: u32,
     rules: u32,
     currency: &[u8],
-    identifier: &[u8],
+    extension: bool,
     entries: &mut [i64],
     at: usize,
     charges: u32,
     n: usize,
 ) -> LogisticsSaid
-    ensures { λ r. ⌜ Told (logisticsSays (lentWith mode rules (now (currency .entry)) (now (identifier .entry))) (linkDoc (now (table .entry)) (now (text .entry)) (now (links .entry))) charges n) (now (entries .entry)) at (maybeChargeOf (r .charge)) (now (entries .exit)) (r .at) ⌝ }
+    ensures { λ r. ⌜ Told (logisticsSays (lentWith mode rules (now (currency .entry)) extension) (linkDoc (now (table .entry)) (now (text .entry)) (now (links .entry))) charges n) (now (entries .entry)) at (maybeChargeOf (r .charge)) (now (entries .exit)) (r .at) ⌝ }
 {
-    if codes::is_conformant(identifier) {
+    if extension {
         let g = charges;
         let read = logistics_row(table, text, links, mode, rules, currency, entries, at, g, n);
         let row = read.row;

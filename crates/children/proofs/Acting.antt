@@ -25,7 +25,7 @@ use Rattle.groups.proofs.Meaning.{vat-breakdown-says, vat-breakdown-holds, vat-
 use Rattle.values.specs.Sites.{lentWith}
 use Rattle.charges.specs.Charges.{heldAs, allowanceChargeSays, logisticsSays}
 use Rattle.charges.proofs.Meaning.{allowance-charge-any, allowance-charge-says, allowance-charge-holds, allowance-charge-next, allowance-charge-strays, logistics-says, logistics-holds, logistics-next, logistics-strays}
-use Rattle.steps.proofs.Identifier.{vat-breakdown-alike}
+use Rattle.steps.proofs.Extension.{vat-breakdown-alike}
 use Rattle.steps.proofs.Stepping.{none-held}
 
 -- a child that says something and holds one row
@@ -49,15 +49,15 @@ row-acted {S} {A} {a} {t} row {v} {next} {h} {h′} {e} {e′} {b} p q w z told 
 
 -- a VAT breakdown
 pub vat-acted :
-    (mode rules : ℕ) (currency identifier : List ℕ) (D : Doc ℕ Place) (s : VatState Place) (n : ℕ) {q : VatState Place} {v : Vat Place} {h h′ e e′ : List ℤ} {b b′ at r : ℕ} →
+    (mode rules : ℕ) (currency : List ℕ) (extension : Bool) (D : Doc ℕ Place) (s : VatState Place) (n : ℕ) {q : VatState Place} {v : Vat Place} {h h′ e e′ : List ℤ} {b b′ at r : ℕ} →
     Told (tradeTaxSays (lentOf mode rules currency) D s n) e at ((q, v)) e′ r →
     Placed h b (heldRow (vat v)) h′ b′ →
     (x : List ℕ) (u : List ℤ) (k : ℕ) →
-    Acted (tradeTaxOf (lentWith mode rules currency identifier) D s n) x (record { count = s .count + 1; point = q .point; code = q .code; first = q .first }) h b h′ b′ e at e′ r u k u k
+    Acted (tradeTaxOf (lentWith mode rules currency extension) D s n) x (record { count = s .count + 1; point = q .point; code = q .code; first = q .first }) h b h′ b′ e at e′ r u k u k
 unfolding tradeTaxOf
-vat-acted mode rules currency identifier D s n {q} {v} {h} {h′} {e} {e′} {b} {b′} {at} {r} told put x u k =
+vat-acted mode rules currency extension D s n {q} {v} {h} {h′} {e} {e′} {b} {b′} {at} {r} told put x u k =
     let one : s .count + 1 ≡ suc (s .count) = omega arith in
-    rw (one, ← vat-breakdown-alike mode rules currency identifier D s n)
+    rw (one, ← vat-breakdown-alike mode rules currency extension D s n)
     (row-acted (λ (w : VatState Place × Vat Place). vat (w .1)) (ap more (told .same) ∙ vat-breakdown-next L D s n) (vat-breakdown-says L D s n) (vat-breakdown-holds L D s n) refl told put x u k)
   where
     L : Lent
@@ -68,13 +68,13 @@ vat-acted mode rules currency identifier D s n {q} {v} {h} {h′} {e} {e′} {b}
 
 -- a preceding invoice
 pub preceding-acted :
-    (mode rules : ℕ) (currency identifier : List ℕ) (D : Doc ℕ Place) (g n : ℕ) {v : Preceding Place} {h h′ e e′ : List ℤ} {b b′ at r : ℕ} →
+    (mode rules : ℕ) (currency : List ℕ) (extension : Bool) (D : Doc ℕ Place) (g n : ℕ) {v : Preceding Place} {h h′ e e′ : List ℤ} {b b′ at r : ℕ} →
     Told (precedingSays mode rules D g n) e at v e′ r →
     Placed h b (heldRow (preceding v)) h′ b′ →
     (x : List ℕ) (u : List ℤ) (k : ℕ) →
-    Acted (reading.precedingOf (lentWith mode rules currency identifier) D g n) x (g + 1) h b h′ b′ e at e′ r u k u k
-preceding-acted mode rules currency identifier D g n told put x u k =
-    rw (← preceding-is (lentWith mode rules currency identifier) D g n) (row-acted preceding (omega arith) refl refl refl told put x u k)
+    Acted (reading.precedingOf (lentWith mode rules currency extension) D g n) x (g + 1) h b h′ b′ e at e′ r u k u k
+preceding-acted mode rules currency extension D g n told put x u k =
+    rw (← preceding-is (lentWith mode rules currency extension) D g n) (row-acted preceding (omega arith) refl refl refl told put x u k)
 
 -- an allowance or a charge
 pub allowance-acted :

@@ -3,7 +3,6 @@ use mathlib.Core.Path.{_≡_, ap}
 use mathlib.Core.Bool.{Bool, true, false, cond}
 use Prim.Native.Nat.{ℕ, _+_, _≤_}
 use native.Mathlib.Omega.{arith}
-use Rattle.codes.specs.Conformant.{conformant}
 use Rattle.report.specs.Rows.{Place}
 use Rattle.settlement.specs.Document.{Doc}
 use Rattle.settlement.specs.Kinds.{Kind, tradeTax, allowanceCharge, precedingInvoice, sameKind, home}
@@ -30,7 +29,7 @@ counted-one false s = record { allowances = omega arith; charges = omega arith }
 module _ (L : Lent) (D : Doc ℕ Place) (c : ℕ) where
   logistics-one : (s : Counts) → OneMore s (logistics L D s c .next)
   unfolding logistics logisticsRead logisticsLeft
-  logistics-one s = go (conformant (L .identifier))
+  logistics-one s = go (L .extension)
     where
       go : (b : Bool) → OneMore s (cond b (logisticsRead L D s c) (logisticsLeft s) .next)
       go true = counted-one true s

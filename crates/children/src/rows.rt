@@ -1,4 +1,5 @@
 // The children that make rows: VAT breakdowns, allowances, charges and preceding invoices.
+ghost use mathlib.Core.Bool.{Bool};
 ghost use mathlib.Core.List.{List};
 ghost use Prim.Native.Nat.{ℕ, _≤_};
 ghost use lib.IntN.{ℤ};
@@ -38,7 +39,7 @@ fn vat_breakdown(
     c: usize,
 ) -> Tallied
     requires { ⌜ tally .breakdowns ≤ 4095 ⌝ }
-    ensures { λ r. ⌜ ((identifier : List ℕ) (p : Plain) (b : Billing) (m : MaybeTotals) (u : List ℤ) → Stepped tradeTax (lentWith mode rules (now (currency .entry)) identifier) (linkDoc (now (table .entry)) (now (text .entry)) (now (links .entry))) (now (text .entry)) c (state p tally b m next) (state p (r .tally) b m (r .next)) (now (held .entry)) (now (held .exit)) (now (entries .entry)) (now (entries .exit)) u u) ⌝ }
+    ensures { λ r. ⌜ ((extension : Bool) (p : Plain) (b : Billing) (m : MaybeTotals) (u : List ℤ) → Stepped tradeTax (lentWith mode rules (now (currency .entry)) extension) (linkDoc (now (table .entry)) (now (text .entry)) (now (links .entry))) (now (text .entry)) c (state p tally b m next) (state p (r .tally) b m (r .next)) (now (held .entry)) (now (held .exit)) (now (entries .entry)) (now (entries .exit)) u u) ⌝ }
 {
     let index = tally.breakdowns;
     let so_far = tally.vat;
@@ -86,7 +87,7 @@ fn allowance_charge(
     c: usize,
 ) -> Tallied
     requires { ⌜ (tally .allowances ≤ 4095) × (tally .charges ≤ 4095) ⌝ }
-    ensures { λ r. ⌜ ((identifier : List ℕ) (p : Plain) (b : Billing) (m : MaybeTotals) (u : List ℤ) → Stepped allowanceCharge (lentWith mode rules (now (currency .entry)) identifier) (linkDoc (now (table .entry)) (now (text .entry)) (now (links .entry))) (now (text .entry)) c (state p tally b m next) (state p (r .tally) b m (r .next)) (now (held .entry)) (now (held .exit)) (now (entries .entry)) (now (entries .exit)) u u) ⌝ }
+    ensures { λ r. ⌜ ((extension : Bool) (p : Plain) (b : Billing) (m : MaybeTotals) (u : List ℤ) → Stepped allowanceCharge (lentWith mode rules (now (currency .entry)) extension) (linkDoc (now (table .entry)) (now (text .entry)) (now (links .entry))) (now (text .entry)) c (state p tally b m next) (state p (r .tally) b m (r .next)) (now (held .entry)) (now (held .exit)) (now (entries .entry)) (now (entries .exit)) u u) ⌝ }
 {
     let a = tally.allowances;
     let b = tally.charges;
@@ -132,7 +133,7 @@ fn logistics_charge(
     mode: u32,
     rules: u32,
     currency: &[u8],
-    identifier: &[u8],
+    extension: bool,
     held: &mut [i64],
     entries: &mut [i64],
     tally: Tally,
@@ -140,7 +141,7 @@ fn logistics_charge(
     c: usize,
 ) -> Tallied
     requires { ⌜ tally .charges ≤ 4095 ⌝ }
-    ensures { λ r. ⌜ ((p : Plain) (b : Billing) (m : MaybeTotals) (u : List ℤ) → Stepped logisticsCharge (lentWith mode rules (now (currency .entry)) (now (identifier .entry))) (linkDoc (now (table .entry)) (now (text .entry)) (now (links .entry))) (now (text .entry)) c (state p tally b m next) (state p (r .tally) b m (r .next)) (now (held .entry)) (now (held .exit)) (now (entries .entry)) (now (entries .exit)) u u) ⌝ }
+    ensures { λ r. ⌜ ((p : Plain) (b : Billing) (m : MaybeTotals) (u : List ℤ) → Stepped logisticsCharge (lentWith mode rules (now (currency .entry)) extension) (linkDoc (now (table .entry)) (now (text .entry)) (now (links .entry))) (now (text .entry)) c (state p tally b m next) (state p (r .tally) b m (r .next)) (now (held .entry)) (now (held .exit)) (now (entries .entry)) (now (entries .exit)) u u) ⌝ }
 {
     let b = tally.charges;
     let said = charges::logistics_charge(
@@ -150,7 +151,7 @@ fn logistics_charge(
         mode,
         rules,
         currency,
-        identifier,
+        extension,
         entries,
         next.at,
         b,
@@ -191,7 +192,7 @@ fn preceding_invoice(
     c: usize,
 ) -> Tallied
     requires { ⌜ tally .invoices ≤ 4095 ⌝ }
-    ensures { λ r. ⌜ ((currency identifier : List ℕ) (p : Plain) (b : Billing) (m : MaybeTotals) (u : List ℤ) → Stepped precedingInvoice (lentWith mode rules currency identifier) (linkDoc (now (table .entry)) (now (text .entry)) (now (links .entry))) (now (text .entry)) c (state p tally b m next) (state p (r .tally) b m (r .next)) (now (held .entry)) (now (held .exit)) (now (entries .entry)) (now (entries .exit)) u u) ⌝ }
+    ensures { λ r. ⌜ ((currency : List ℕ) (extension : Bool) (p : Plain) (b : Billing) (m : MaybeTotals) (u : List ℤ) → Stepped precedingInvoice (lentWith mode rules currency extension) (linkDoc (now (table .entry)) (now (text .entry)) (now (links .entry))) (now (text .entry)) c (state p tally b m next) (state p (r .tally) b m (r .next)) (now (held .entry)) (now (held .exit)) (now (entries .entry)) (now (entries .exit)) u u) ⌝ }
 {
     let index = tally.invoices;
     let said = groups::preceding(table, text, links, mode, rules, entries, next.at, index, c);
@@ -217,7 +218,7 @@ pub(crate) fn row_child(
     mode: u32,
     rules: u32,
     currency: &[u8],
-    identifier: &[u8],
+    extension: bool,
     held: &mut [i64],
     entries: &mut [i64],
     tally: Tally,
@@ -226,7 +227,7 @@ pub(crate) fn row_child(
     c: usize,
 ) -> Tallied
     requires { ⌜ Counted tally 4095 ⌝ }
-    ensures { λ r. ⌜ ((p : Plain) (b : Billing) (m : MaybeTotals) (u : List ℤ) → Stepped (rowIs kind) (lentWith mode rules (now (currency .entry)) (now (identifier .entry))) (linkDoc (now (table .entry)) (now (text .entry)) (now (links .entry))) (now (text .entry)) c (state p tally b m next) (state p (r .tally) b m (r .next)) (now (held .entry)) (now (held .exit)) (now (entries .entry)) (now (entries .exit)) u u) ⌝ }
+    ensures { λ r. ⌜ ((p : Plain) (b : Billing) (m : MaybeTotals) (u : List ℤ) → Stepped (rowIs kind) (lentWith mode rules (now (currency .entry)) extension) (linkDoc (now (table .entry)) (now (text .entry)) (now (links .entry))) (now (text .entry)) c (state p tally b m next) (state p (r .tally) b m (r .next)) (now (held .entry)) (now (held .exit)) (now (entries .entry)) (now (entries .exit)) u u) ⌝ }
 {
     match kind {
         RowKind::TradeTax => vat_breakdown(
@@ -262,7 +263,7 @@ pub(crate) fn row_child(
             mode,
             rules,
             currency,
-            identifier,
+            extension,
             held,
             entries,
             tally,

@@ -52,7 +52,7 @@ fn read_children(
     mode: u32,
     rules: u32,
     currency: &[u8],
-    identifier: &[u8],
+    extension: bool,
     held: &mut [i64],
     entries: &mut [i64],
     unmapped: &mut [i64],
@@ -60,7 +60,7 @@ fn read_children(
     n: usize,
 ) -> State
     requires { ⌜ (length (now links) ≤ 12288) × Counted (start .tally) 0 ⌝ }
-    ensures { λ r. ⌜ Walked (lentWith mode rules (now (currency .entry)) (now (identifier .entry))) (linkDoc (now (table .entry)) (now (text .entry)) (now (links .entry))) (now (text .entry)) (linkDoc (now (table .entry)) (now (text .entry)) (now (links .entry)) .kids n) start r (now (held .entry)) (now (held .exit)) (now (entries .entry)) (now (entries .exit)) (now (unmapped .entry)) (now (unmapped .exit)) ⌝ }
+    ensures { λ r. ⌜ Walked (lentWith mode rules (now (currency .entry)) extension) (linkDoc (now (table .entry)) (now (text .entry)) (now (links .entry))) (now (text .entry)) (linkDoc (now (table .entry)) (now (text .entry)) (now (links .entry)) .kids n) start r (now (held .entry)) (now (held .exit)) (now (entries .entry)) (now (entries .exit)) (now (unmapped .entry)) (now (unmapped .exit)) ⌝ }
 {
     let mut plain = start.plain;
     let mut tally = start.tally;
@@ -92,7 +92,7 @@ fn read_children(
                     mode,
                     rules,
                     currency,
-                    identifier,
+                    extension,
                     held,
                     entries,
                     tally,
@@ -162,12 +162,12 @@ pub fn read_settlement(
     mode: u32,
     rules: u32,
     currency: &[u8],
-    identifier: &[u8],
+    extension: bool,
     held: &mut [i64],
     entries: &mut [i64],
     unmapped: &mut [i64],
 ) -> State
-    ensures { λ r. ⌜ Read (lentWith mode rules (now (currency .entry)) (now (identifier .entry))) (linkDoc (now (table .entry)) (now (text .entry)) (now (links .entry))) (now (text .entry)) (countable (now (links .entry)) (linkDoc (now (table .entry)) (now (text .entry)) (now (links .entry)) .kids 0)) r (now (held .entry)) (now (held .exit)) (now (entries .entry)) (now (entries .exit)) (now (unmapped .entry)) (now (unmapped .exit)) ⌝ }
+    ensures { λ r. ⌜ Read (lentWith mode rules (now (currency .entry)) extension) (linkDoc (now (table .entry)) (now (text .entry)) (now (links .entry))) (now (text .entry)) (countable (now (links .entry)) (linkDoc (now (table .entry)) (now (text .entry)) (now (links .entry)) .kids 0)) r (now (held .entry)) (now (held .exit)) (now (entries .entry)) (now (entries .exit)) (now (unmapped .entry)) (now (unmapped .exit)) ⌝ }
 {
     let start = steps::blank();
     if links.len() <= 12288 {
@@ -178,7 +178,7 @@ pub fn read_settlement(
             mode,
             rules,
             currency,
-            identifier,
+            extension,
             held,
             entries,
             unmapped,

@@ -16,11 +16,9 @@ pub fn attribute_text(table: &[u32], text: &[u8], links: &[u16], n: usize, want:
     if a == 0 {
         return Text::Absent;
     }
-    Text::At(Place {
-        start: table::field_of(table, a, Field::TextStart),
-        skip: 0,
-        len: table::field_of(table, a, Field::TextLength),
-    })
+    let start = table::field_of(table, a, Field::TextStart);
+    let len = table::field_of(table, a, Field::TextLength);
+    Text::At(Place::new(start, 0, len))
 }
 
 // The same, trimmed; empty is absent.

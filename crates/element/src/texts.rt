@@ -20,18 +20,16 @@ fn wide(x: u32) -> usize
 pub fn shown(text: &[u8], p: Place) -> &[u8]
     ensures { λ s. ⌜ now s ≡ shows (now (text .entry)) (placeOf p) ⌝ }
 {
-    text::clip(text, wide(p.start) + wide(p.skip), wide(p.len))
+    p.bytes(text)
 }
 
 // The name of element r.
 pub fn name(table: &[u32], r: usize) -> Place
     ensures { λ p. ⌜ placeOf p ≡ nameAt (now (table .entry)) r ⌝ }
 {
-    Place {
-        start: table::field_of(table, r, Field::NameStart),
-        skip: 0,
-        len: table::field_of(table, r, Field::NameLength),
-    }
+    let start = table::field_of(table, r, Field::NameStart);
+    let len = table::field_of(table, r, Field::NameLength);
+    Place::new(start, 0, len)
 }
 
 // The text of element r as it stands, absent where it has none.
@@ -42,11 +40,8 @@ pub fn raw_text(table: &[u32], r: usize) -> Text
     if len == 0 {
         return Text::Absent;
     }
-    Text::At(Place {
-        start: table::field_of(table, r, Field::TextStart),
-        skip: 0,
-        len,
-    })
+    let start = table::field_of(table, r, Field::TextStart);
+    Text::At(Place::new(start, 0, len))
 }
 
 // The bytes of the text of element r, none where it has none.
@@ -71,11 +66,9 @@ pub(crate) fn trimmed_at(text: &[u8], mode: u32, start: u32, len: u32) -> Text
     if end <= from {
         return Text::Absent;
     }
-    Text::At(Place {
-        start,
-        skip: from as u32,
-        len: (end - from) as u32,
-    })
+    let skip = from as u32;
+    let len = (end - from) as u32;
+    Text::At(Place::new(start, skip, len))
 }
 
 // The text of record r, trimmed in a mode; blank is absent.
@@ -93,11 +86,7 @@ pub fn own_text(table: &[u32], text: &[u8], links: &[u16], mode: u32, r: usize) 
 {
     let t = text_in(table, text, links, mode, r);
     match t {
-        Text::Absent => Place {
-            start: 0,
-            skip: 0,
-            len: 0,
-        },
+        Text::Absent => Place::new(0, 0, 0),
         Text::At(p) => p,
     }
 }

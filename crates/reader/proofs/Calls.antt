@@ -198,7 +198,7 @@ module _ (L : Lent) (c : Call) (p : Promised L c) (e : c .answer .refusal ≡ 0)
         unmappedRows = p .unmappedRows ∙ ap (λ (r : Result). rowsThen (r .unmapped) (c .unmapped)) result;
       }
 
--- two calls under the same mode, rules number, currency and identifier that read, the lists at entry being any
+-- two calls that read under the same mode, rules number and currency, and under identifiers that both are or both are not that of a conformant extension, the lists at entry being any
 module _ (L : Lent) (c d : Call) (p : Promised L c) (q : Promised L d) (e : c .answer .refusal ≡ 0) (f : d .answer .refusal ≡ 0) where
   -- tables that describe the same settlement leave numbers that show the same
   pub calls-same : treeOf (c .table) (c .text) 0 ≡ treeOf (d .table) (d .text) 0 → SameCalls c d

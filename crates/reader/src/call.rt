@@ -4,6 +4,7 @@ ghost use mathlib.Core.Bool.{false, _||_};
 ghost use mathlib.Core.Option.{none};
 ghost use Prim.Native.Nat.{_*_};
 ghost use lib.Dec.{ltb};
+ghost use Rattle.codes.specs.Conformant.{conformant};
 ghost use Rattle.refusals.specs.Refusals.{refuse, atRoot, refusal};
 ghost use Rattle.settlement.specs.Outcome.{read, cramped, unless, outcome};
 ghost use Rattle.settlement.specs.Settlement.{reading};
@@ -41,7 +42,7 @@ fn read_linked(
     text: &[u8],
     links: &[u16],
     currency: &[u8],
-    identifier: &[u8],
+    extension: bool,
     rules: u32,
     mode: u32,
     held: &mut [i64],
@@ -49,7 +50,7 @@ fn read_linked(
     unmapped: &mut [i64],
 ) -> Answer
     requires { ⌜ (refusal (now table) (now text) ≡ none) × (cramped (roomOf (now held) (now entries) (now unmapped)) (now table) ≡ false) × Spelled (now table) (now text) (now links) ⌝ }
-    ensures { λ r. ⌜ Answered (read (reading (lentWith mode rules (now (currency .entry)) (now (identifier .entry))) (tableDoc (now (table .entry)) (now (text .entry))) 0)) r (now (held .entry)) (now (held .exit)) (now (entries .entry)) (now (entries .exit)) (now (unmapped .entry)) (now (unmapped .exit)) ⌝ }
+    ensures { λ r. ⌜ Answered (read (reading (lentWith mode rules (now (currency .entry)) extension) (tableDoc (now (table .entry)) (now (text .entry))) 0)) r (now (held .entry)) (now (held .exit)) (now (entries .entry)) (now (entries .exit)) (now (unmapped .entry)) (now (unmapped .exit)) ⌝ }
 {
     let s = children::read_settlement(
         table,
@@ -58,7 +59,7 @@ fn read_linked(
         mode,
         rules,
         currency,
-        identifier,
+        extension,
         held,
         entries,
         unmapped,
@@ -82,7 +83,7 @@ fn read_settlement(
     table: &[u32],
     text: &[u8],
     currency: &[u8],
-    identifier: &[u8],
+    extension: bool,
     rules: u32,
     mode: u32,
     held: &mut [i64],
@@ -90,7 +91,7 @@ fn read_settlement(
     unmapped: &mut [i64],
 ) -> Answer
     requires { ⌜ (refusal (now table) (now text) ≡ none) × (cramped (roomOf (now held) (now entries) (now unmapped)) (now table) ≡ false) ⌝ }
-    ensures { λ r. ⌜ Answered (read (reading (lentWith mode rules (now (currency .entry)) (now (identifier .entry))) (tableDoc (now (table .entry)) (now (text .entry))) 0)) r (now (held .entry)) (now (held .exit)) (now (entries .entry)) (now (entries .exit)) (now (unmapped .entry)) (now (unmapped .exit)) ⌝ }
+    ensures { λ r. ⌜ Answered (read (reading (lentWith mode rules (now (currency .entry)) extension) (tableDoc (now (table .entry)) (now (text .entry))) 0)) r (now (held .entry)) (now (held .exit)) (now (entries .entry)) (now (entries .exit)) (now (unmapped .entry)) (now (unmapped .exit)) ⌝ }
 {
     if table.len() / 6 <= 256 {
         let mut few: [u16; 768] = [0; 768];
@@ -100,7 +101,7 @@ fn read_settlement(
             text,
             &few,
             currency,
-            identifier,
+            extension,
             rules,
             mode,
             held,
@@ -115,7 +116,7 @@ fn read_settlement(
         text,
         &links,
         currency,
-        identifier,
+        extension,
         rules,
         mode,
         held,
@@ -124,7 +125,8 @@ fn read_settlement(
     )
 }
 
-// Reads the settlement of an accepted table, unless the lists have too little room.
+// Reads the settlement of an accepted table, unless the lists have too little room. The identifier is
+// looked at once, and not where a call is refused.
 fn read_accepted(
     table: &[u32],
     text: &[u8],
@@ -137,16 +139,17 @@ fn read_accepted(
     unmapped: &mut [i64],
 ) -> Answer
     requires { ⌜ refusal (now table) (now text) ≡ none ⌝ }
-    ensures { λ r. ⌜ Answered (unless (refuse 10 (atRoot (cramped (roomOf (now (held .entry)) (now (entries .entry)) (now (unmapped .entry))) (now (table .entry)))) none) (reading (lentWith mode rules (now (currency .entry)) (now (identifier .entry))) (tableDoc (now (table .entry)) (now (text .entry))) 0)) r (now (held .entry)) (now (held .exit)) (now (entries .entry)) (now (entries .exit)) (now (unmapped .entry)) (now (unmapped .exit)) ⌝ }
+    ensures { λ r. ⌜ Answered (unless (refuse 10 (atRoot (cramped (roomOf (now (held .entry)) (now (entries .entry)) (now (unmapped .entry))) (now (table .entry)))) none) (reading (lentWith mode rules (now (currency .entry)) (conformant (now (identifier .entry)))) (tableDoc (now (table .entry)) (now (text .entry))) 0)) r (now (held .entry)) (now (held .exit)) (now (entries .entry)) (now (entries .exit)) (now (unmapped .entry)) (now (unmapped .exit)) ⌝ }
 {
     if is_cramped(table.len() / 6, held.len(), entries.len(), unmapped.len()) {
         return refused(10, 0);
     }
+    let extension = codes::is_conformant(identifier);
     read_settlement(
         table,
         text,
         currency,
-        identifier,
+        extension,
         rules,
         mode,
         held,
@@ -168,7 +171,7 @@ pub fn read(
     entries: &mut [i64],
     unmapped: &mut [i64],
 ) -> Answer
-    ensures { λ r. ⌜ Answered (outcome (lentWith mode rules (now (currency .entry)) (now (identifier .entry))) (roomOf (now (held .entry)) (now (entries .entry)) (now (unmapped .entry))) (now (table .entry)) (now (text .entry))) r (now (held .entry)) (now (held .exit)) (now (entries .entry)) (now (entries .exit)) (now (unmapped .entry)) (now (unmapped .exit)) ⌝ }
+    ensures { λ r. ⌜ Answered (outcome (lentWith mode rules (now (currency .entry)) (conformant (now (identifier .entry)))) (roomOf (now (held .entry)) (now (entries .entry)) (now (unmapped .entry))) (now (table .entry)) (now (text .entry))) r (now (held .entry)) (now (held .exit)) (now (entries .entry)) (now (entries .exit)) (now (unmapped .entry)) (now (unmapped .exit)) ⌝ }
 {
     if 1 < mode {
         return refused(1, 0);

@@ -15,8 +15,6 @@ use crate::value::amount_present;
 use crate::value::day_number;
 use crate::value::percent_scale;
 use crate::value::percent_unscaled;
-use crate::value::place_length;
-use crate::value::place_start;
 use crate::value::signed;
 use crate::value::text_length;
 use crate::value::text_start;
@@ -96,8 +94,8 @@ pub fn put_vat(list: &mut [i64], at: usize, v: Vat) -> usize
         2,
         taxable.to_minor_units(),
         tax.to_minor_units(),
-        place_start(category),
-        place_length(category),
+        category.start(),
+        category.length(),
         percent_unscaled(rate),
         percent_scale(rate),
         text_start(reason),
@@ -129,8 +127,8 @@ fn put_allowance_charge(list: &mut [i64], at: usize, kind: u32, a: AllowanceChar
         amount_hundredths(base),
         percent_unscaled(percentage),
         percent_scale(percentage),
-        place_start(category),
-        place_length(category),
+        category.start(),
+        category.length(),
         percent_unscaled(rate),
         percent_scale(rate),
         text_start(reason),
@@ -163,8 +161,8 @@ pub fn put_preceding(list: &mut [i64], at: usize, p: Preceding) -> usize
     let date = p.date;
     let row: [i64; HELD_WIDTH] = [
         5,
-        place_start(reference),
-        place_length(reference),
+        reference.start(),
+        reference.length(),
         day_number(date),
         0,
         0,

@@ -36,7 +36,5 @@ pub use value::Text;
 pub use value::amount_hundredths;
 pub use value::amount_present;
 pub use value::day_number;
-pub use value::place_length;
-pub use value::place_start;
 pub use value::text_length;
 pub use value::text_start;

@@ -5,8 +5,6 @@ ghost use Rattle.report.specs.Values.{unmappedOf};
 use crate::list::UNMAPPED_WIDTH;
 use crate::list::put_row;
 use crate::value::Place;
-use crate::value::place_length;
-use crate::value::place_start;
 use crate::value::signed;
 use names::Parent;
 
@@ -22,10 +20,6 @@ pub fn put_unmapped(list: &mut [i64], at: usize, u: Unmapped) -> usize
 {
     let parent = u.parent;
     let name = u.name;
-    let row: [i64; UNMAPPED_WIDTH] = [
-        signed(parent.number()),
-        place_start(name),
-        place_length(name),
-    ];
+    let row: [i64; UNMAPPED_WIDTH] = [signed(parent.number()), name.start(), name.length()];
     put_row(list, at, &row)
 }

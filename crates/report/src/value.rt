@@ -3,6 +3,7 @@
 ghost use mathlib.Core.Path.{_≡_};
 ghost use Prim.Native.Nat.{_+_};
 ghost use lib.IntN.{pos};
+ghost use Rattle.text.specs.Span.{clipped};
 ghost use Rattle.report.specs.Encoding.{placeStart, placeLength, textStart, textLength, unscaled, scale, present, hundredths, orAbsent};
 ghost use Rattle.report.specs.Values.{placeOf, textOf, amountOf, percentOf, dayOf, indexOf};
 use amount::InvoiceAmount;
@@ -10,11 +11,11 @@ use amount::Percentage;
 
 // A text's place in the lent text: where the record's text starts, how many bytes were trimmed off
 // its front, and the length of what is left. The two are not added, so that a place has no limit
-// beyond that of a record's numbers.
+// beyond that of a record's numbers; the methods answer their sum.
 pub struct Place {
-    pub start: u32,
-    pub skip: u32,
-    pub len: u32,
+    start: u32,
+    skip: u32,
+    len: u32,
 }
 
 // A text that may be absent.
@@ -59,21 +60,44 @@ fn sum(a: u32, b: u32) -> i64
     (a as u64 + b as u64) as i64
 }
 
-// An empty text starts at 0, wherever it was cut.
-pub fn place_start(p: Place) -> i64
-    ensures { λ r. ⌜ r ≡ placeStart (placeOf p) ⌝ }
+fn wide(n: u32) -> usize
+    ensures { λ r. ⌜ r ≡ n ⌝ }
 {
-    let empty = p.len == 0;
-    if empty {
-        return 0;
-    }
-    sum(p.start, p.skip)
+    n as usize
 }
 
-pub fn place_length(p: Place) -> i64
-    ensures { λ r. ⌜ r ≡ placeLength (placeOf p) ⌝ }
-{
-    signed(p.len)
+impl Place {
+    // The place of what trimming left of a text from start on: len bytes, behind skip bytes.
+    pub fn new(start: u32, skip: u32, len: u32) -> Place
+        ensures { λ r. ⌜ placeOf r ≡ record { start = start + skip; len = len } ⌝ }
+    {
+        Place { start, skip, len }
+    }
+
+    // Where it starts, as rows and the view have it: an empty text starts at 0, wherever it was cut.
+    pub fn start(self) -> i64
+        ensures { λ r. ⌜ r ≡ placeStart (placeOf self) ⌝ }
+    {
+        let empty = self.len == 0;
+        if empty {
+            return 0;
+        }
+        sum(self.start, self.skip)
+    }
+
+    // Its length, as rows and the view have it.
+    pub fn length(self) -> i64
+        ensures { λ r. ⌜ r ≡ placeLength (placeOf self) ⌝ }
+    {
+        signed(self.len)
+    }
+
+    // The bytes of the text there.
+    pub fn bytes(self, text: &[u8]) -> &[u8]
+        ensures { λ s. ⌜ now s ≡ clipped (now (text .entry)) (placeOf self .start) (placeOf self .len) ⌝ }
+    {
+        text::clip(text, wide(self.start) + wide(self.skip), wide(self.len))
+    }
 }
 
 pub fn text_start(t: Text) -> i64
@@ -81,7 +105,7 @@ pub fn text_start(t: Text) -> i64
 {
     match t {
         Text::Absent => -1,
-        Text::At(p) => place_start(p),
+        Text::At(p) => p.start(),
     }
 }
 
@@ -90,7 +114,7 @@ pub fn text_length(t: Text) -> i64
 {
     match t {
         Text::Absent => 0,
-        Text::At(p) => place_length(p),
+        Text::At(p) => p.length(),
     }
 }
 

@@ -1,4 +1,5 @@
 // The function for hosts.
+ghost use Rattle.codes.specs.Conformant.{conformant};
 ghost use Rattle.settlement.specs.Outcome.{outcome};
 ghost use Rattle.values.specs.Sites.{lentWith};
 ghost use Rattle.reader.specs.Answered.{roomOf};
@@ -19,7 +20,7 @@ pub extern "C" fn rulzhamm_read(
     unmapped: &mut [i64],
     answer: &mut [i64; 65],
 )
-    ensures { λ _. ⌜ Called (outcome (lentWith mode rules (now (currency .entry)) (now (identifier .entry))) (roomOf (now (held .entry)) (now (entries .entry)) (now (unmapped .entry))) (now (table .entry)) (now (text .entry))) (now (answer .exit)) (now (held .entry)) (now (held .exit)) (now (entries .entry)) (now (entries .exit)) (now (unmapped .entry)) (now (unmapped .exit)) ⌝ }
+    ensures { λ _. ⌜ Called (outcome (lentWith mode rules (now (currency .entry)) (conformant (now (identifier .entry)))) (roomOf (now (held .entry)) (now (entries .entry)) (now (unmapped .entry))) (now (table .entry)) (now (text .entry))) (now (answer .exit)) (now (held .entry)) (now (held .exit)) (now (entries .entry)) (now (entries .exit)) (now (unmapped .entry)) (now (unmapped .exit)) ⌝ }
 {
     let a = reader::read(
         table,

@@ -11,8 +11,6 @@ use payment::Means;
 use report::amount_hundredths;
 use report::amount_present;
 use report::day_number;
-use report::place_length;
-use report::place_start;
 use report::put_row;
 use report::text_length;
 use report::text_start;
@@ -30,8 +28,8 @@ fn put_identifier(row: &mut [i64], at: usize, i: MaybeIdentifier) -> usize
             let content = id.content;
             let scheme = id.scheme;
             let cells: [i64; 4] = [
-                place_start(content),
-                place_length(content),
+                content.start(),
+                content.length(),
                 text_start(scheme),
                 text_length(scheme),
             ];

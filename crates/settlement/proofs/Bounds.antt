@@ -9,7 +9,6 @@ use lib.ListN.{length, length-append}
 use Rattle.text.specs.Answer.{Answer}
 use Rattle.text.specs.Order.{equal}
 use Rattle.text.specs.Utf8.{bytes}
-use Rattle.codes.specs.Conformant.{conformant}
 use Rattle.codes.specs.DateFormat.{dateFormat}
 use Rattle.codes.specs.Rules.{inForce}
 use Rattle.codes.specs.Vat.{vat}
@@ -264,7 +263,7 @@ module _ {N X : Type 0} (L : Lent) (D : Doc N X) where
   -- a logistics charge says at most two, and two more where it has children
   pub logistics-most : (s : Counts) (n : N) → length (logistics L D s n .says) ≤ 2 + 2 * any n
   unfolding logistics logisticsLeft
-  logistics-most s n = go (conformant (L .identifier))
+  logistics-most s n = go (L .extension)
     where
       go : (b : Bool) → length (cond b (logisticsRead L D s n) (logisticsLeft s) .says) ≤ 2 + 2 * any n
       go true = logisticsRead-most s n
@@ -273,7 +272,7 @@ module _ {N X : Type 0} (L : Lent) (D : Doc N X) where
   -- and holds at most one row
   pub logistics-row : (s : Counts) (n : N) → length (logistics L D s n .holds) ≤ 1
   unfolding logistics logisticsRead logisticsLeft
-  logistics-row s n = go (conformant (L .identifier))
+  logistics-row s n = go (L .extension)
     where
       go : (b : Bool) → length (cond b (logisticsRead L D s n) (logisticsLeft s) .holds) ≤ 1
       go true = omega arith
@@ -282,7 +281,7 @@ module _ {N X : Type 0} (L : Lent) (D : Doc N X) where
   -- and no unmapped name
   pub logistics-stray : (s : Counts) (n : N) → length (logistics L D s n .strays) ≤ 0
   unfolding logistics logisticsRead logisticsLeft
-  logistics-stray s n = go (conformant (L .identifier))
+  logistics-stray s n = go (L .extension)
     where
       go : (b : Bool) → length (cond b (logisticsRead L D s n) (logisticsLeft s) .strays) ≤ 0
       go true = omega arith

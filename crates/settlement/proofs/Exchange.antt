@@ -6,7 +6,6 @@ use mathlib.Core.List.{List, [], _∷_, _++_, Perm·append-right, foldl, map}
 use mathlib.Core.Logic.{_⊎_, inl, inr, _≢_}
 use Prim.Native.Nat.{ℕ}
 use lib.Dec.{T, eqb, eqb→eq}
-use Rattle.codes.specs.Conformant.{conformant}
 use Rattle.report.specs.Rows.{Transfer, Held, transfer, allowance, charge, AllowanceCharge}
 use Rattle.settlement.specs.Document.{Doc}
 use Rattle.settlement.specs.Kinds.{Kind, creditorReference, paymentReference, taxCurrency, invoiceCurrency, payee, paymentMeans, tradeTax, period, allowanceCharge, logisticsCharge, paymentTerms, summation, precedingInvoice, accounting, other, Kind-discrete, sameKind, home}
@@ -142,7 +141,7 @@ tagged-none {X} j l (r ∷ rs) t h = go (eqb (rowKind r) j) refl (tagged-none j 
 module _ {N X : Type 0} (L : Lent) (D : Doc N X) where
   charge-rows : (s : Counts) (n : N) (b : Bool) → Tagged allowanceCharge (cond b (logistics L D s n) (allowanceOrCharge L D s n) .holds)
   unfolding logistics logisticsRead logisticsLeft allowanceOrCharge allowanceChargeOf rowLane
-  charge-rows s n true = go (conformant (L .identifier))
+  charge-rows s n true = go (L .extension)
     where
       go : (c : Bool) → Tagged allowanceCharge (cond c (logisticsRead L D s n) (logisticsLeft s) .holds)
       go true = (refl, tt)

@@ -6,7 +6,6 @@ use mathlib.Core.Logic.{_⊎_, inl, inr, _≢_}
 use Prim.Native.Nat.{ℕ}
 use Rattle.text.specs.Order.{equal}
 use Rattle.text.specs.Utf8.{bytes, encode}
-use Rattle.codes.specs.Conformant.{conformant}
 use Rattle.report.specs.Rows.{Held, vat, allowance, charge, preceding}
 use Rattle.settlement.specs.Document.{Doc}
 use Rattle.settlement.specs.Kinds.{Kind, tradeTax, allowanceCharge, logisticsCharge, precedingInvoice, sameKind, home, meant, kinds, kindNamed}
@@ -69,9 +68,9 @@ module _ {N X : Type 0} (L : Lent) (D : Doc N X) where
   allowance-charge-one b g n =
       rw (required-is L D _ _ _ n (bytes "ActualAmount"), amount-is (L .mode) (L .currency) D _ n (bytes "BasisAmount"), percent-is (L .mode) D _ n (bytes "CalculationPercent"), category-is L D _ _ _ n (bytes "CategoryTradeTax"))
 
-  logistics-charge-one : (s : Counts) (n : N) → logistics L D s n .holds ≡ cond (conformant (L .identifier)) (charge (logisticsRow L D n) ∷ []) []
+  logistics-charge-one : (s : Counts) (n : N) → logistics L D s n .holds ≡ cond (L .extension) (charge (logisticsRow L D n) ∷ []) []
   unfolding logistics logisticsRead logisticsLeft logisticsRow
-  logistics-charge-one s n = go (conformant (L .identifier))
+  logistics-charge-one s n = go (L .extension)
     where
       go : (b : Bool) → cond b (logisticsRead L D s n) (logisticsLeft s) .holds ≡ cond b (charge (logisticsRow L D n) ∷ []) []
       go true = rw (required-is L D _ _ _ n (bytes "AppliedAmount"), category-is L D _ _ _ n (bytes "AppliedTradeTax"))
@@ -85,7 +84,7 @@ module _ {N X : Type 0} (L : Lent) (D : Doc N X) where
   -- the rows of a child, by its name
   charge-holds : (j : ℕ) → rowLane j ≡ allowanceCharge → (s : State X) (n : N) → ofKind j (holdsOf L D s n) ≡
       cond (isNamed D "SpecifiedTradeAllowanceCharge" n) (ofKind j (cond (isCharge D n .0) charge allowance (allowanceChargeRow L D n) ∷ []))
-      (cond (isNamed D "SpecifiedLogisticsServiceCharge" n) (ofKind j (cond (conformant (L .identifier)) (charge (logisticsRow L D n) ∷ []) [])) [])
+      (cond (isNamed D "SpecifiedLogisticsServiceCharge" n) (ofKind j (cond (L .extension) (charge (logisticsRow L D n) ∷ []) [])) [])
   unfolding own home sameKind kindNamed meant kinds equal bytes encode
   charge-holds j lane s n =
       rw (← (kind-test L D allowanceCharge refl (λ e. true≢false cc) n), ← (kind-test L D logisticsCharge refl (λ e. true≢false cc) n))
@@ -97,14 +96,14 @@ module _ {N X : Type 0} (L : Lent) (D : Doc N X) where
 
       go : (a b : Bool) → sameKind (kindOf D n) allowanceCharge ≡ a → sameKind (kindOf D n) logisticsCharge ≡ b → ofKind j (holdsOf L D s n) ≡
           cond a (ofKind j (cond (isCharge D n .0) charge allowance (allowanceChargeRow L D n) ∷ []))
-          (cond b (ofKind j (cond (conformant (L .identifier)) (charge (logisticsRow L D n) ∷ []) [])) [])
+          (cond b (ofKind j (cond (L .extension) (charge (logisticsRow L D n) ∷ []) [])) [])
       go true b e f = ap (ofKind j) (holds-as s n allowanceCharge (sameKind-eq (kindOf D n) allowanceCharge e) ∙ by-indicator (s allowanceCharge) n)
       go false true e f = ap (ofKind j) (holds-as s n logisticsCharge (sameKind-eq (kindOf D n) logisticsCharge f) ∙ logistics-charge-one (s allowanceCharge) n)
       go false false e f = holds-none j s n (elsewhere (home-cases (kindOf D n)) e f)
 
   allowance-one : (s : State X) (n : N) → ofKind 3 (holdsOf L D s n) ≡ cond (makesAllowance L D n) (allowance (allowanceChargeRow L D n) ∷ []) []
   unfolding makesAllowance rowLane ofKind keep
-  allowance-one s n = charge-holds 3 refl s n ∙ go (isNamed D "SpecifiedTradeAllowanceCharge" n) (isNamed D "SpecifiedLogisticsServiceCharge" n) (isCharge D n .0) (conformant (L .identifier))
+  allowance-one s n = charge-holds 3 refl s n ∙ go (isNamed D "SpecifiedTradeAllowanceCharge" n) (isNamed D "SpecifiedLogisticsServiceCharge" n) (isCharge D n .0) (L .extension)
     where
       go : (a b i c : Bool) →
           cond a (ofKind 3 (cond i charge allowance (allowanceChargeRow L D n) ∷ [])) (cond b (ofKind 3 (cond c (charge (logisticsRow L D n) ∷ []) [])) []) ≡
@@ -117,7 +116,7 @@ module _ {N X : Type 0} (L : Lent) (D : Doc N X) where
 
   charge-one : (s : State X) (n : N) → ofKind 4 (holdsOf L D s n) ≡ cond (makesCharge L D n) (charge (chargeRow L D n) ∷ []) []
   unfolding makesCharge chargeRow rowLane ofKind keep
-  charge-one s n = charge-holds 4 refl s n ∙ go (isNamed D "SpecifiedTradeAllowanceCharge" n) (isNamed D "SpecifiedLogisticsServiceCharge" n) (isCharge D n .0) (conformant (L .identifier))
+  charge-one s n = charge-holds 4 refl s n ∙ go (isNamed D "SpecifiedTradeAllowanceCharge" n) (isNamed D "SpecifiedLogisticsServiceCharge" n) (isCharge D n .0) (L .extension)
     where
       go : (a b i c : Bool) →
           cond a (ofKind 4 (cond i charge allowance (allowanceChargeRow L D n) ∷ [])) (cond b (ofKind 4 (cond c (charge (logisticsRow L D n) ∷ []) [])) []) ≡

@@ -42,7 +42,7 @@ use Rattle.settlement.specs.Edges.{leaf, branch}
 
 -- mode 0, all rules in force
 abbrev pub lent : Lent
-lent = record { mode = 0; rules = 4095; currency = []; identifier = [] }
+lent = record { mode = 0; rules = 4095; currency = []; extension = false }
 
 -- room for twelve records
 abbrev pub room : Room

@@ -7,7 +7,6 @@ use lib.IntN.{ℤ, pos}
 use Rattle.text.specs.Utf8.{bytes}
 use Rattle.amount.specs.Amount.{parsedAmount}
 use Rattle.amount.specs.Percentage.{parsedPercentage}
-use Rattle.codes.specs.Conformant.{conformant}
 use Rattle.codes.specs.DateFormat.{dateFormat}
 use Rattle.date.specs.Date.{parsedDate}
 use Rattle.report.specs.Rows.{Vat, AllowanceCharge, Preceding}
@@ -108,7 +107,7 @@ module _ {N X : Type 0} (L : Lent) (D : Doc N X) where
 
   -- a charge: its indicator says so, or it is a logistics charge under the identifier of a conformant extension
   unfoldable pub makesCharge : N → Bool
-  makesCharge n = cond (isNamed D "SpecifiedTradeAllowanceCharge" n) (isCharge D n .0) (isNamed D "SpecifiedLogisticsServiceCharge" n && conformant (L .identifier))
+  makesCharge n = cond (isNamed D "SpecifiedTradeAllowanceCharge" n) (isCharge D n .0) (isNamed D "SpecifiedLogisticsServiceCharge" n && L .extension)
 
   -- the row of a charge
   unfoldable pub chargeRow : N → AllowanceCharge X

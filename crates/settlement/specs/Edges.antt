@@ -1,6 +1,6 @@
 -- The starred edges of document 01, "Edges", as one list of equations about the definitions.
 use mathlib.Core.Path.{_≡_}
-use mathlib.Core.Bool.{cond}
+use mathlib.Core.Bool.{false, cond}
 use mathlib.Core.List.{List, [], _∷_}
 use mathlib.Core.Option.{none, some}
 use Prim.Native.String.{String}
@@ -36,7 +36,7 @@ settlement l = branch "ApplicableHeaderTradeSettlement" l
 
 -- input `0 0 EUR -`
 abbrev pub lent : Lent
-lent = record { mode = 0; rules = 0; currency = bytes "EUR"; identifier = [] }
+lent = record { mode = 0; rules = 0; currency = bytes "EUR"; extension = false }
 
 -- a list of equations holds where each does
 abbrev pub All : List (Type 0) → Type 0

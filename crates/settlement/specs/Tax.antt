@@ -8,7 +8,6 @@ use Rattle.text.specs.Answer.{Answer}
 use Rattle.text.specs.Order.{equal}
 use Rattle.text.specs.Utf8.{bytes}
 use Rattle.codes.specs.Boolean.{booleanOf}
-use Rattle.codes.specs.Conformant.{conformant}
 use Rattle.codes.specs.VatPoint.{vatPointDateCodeOf}
 use Rattle.codes.specs.declared.rules.Rule.{Rule}
 use Rattle.codes.specs.declared.rules.Rule.the-variants as Rule
@@ -159,4 +158,4 @@ module _ {N X : Type 0} (L : Lent) (D : Doc N X) where
 
   -- by the specification identifier
   unfoldable pub logistics : Counts → N → Act X Counts
-  logistics s n = cond (conformant (L .identifier)) (logisticsRead s n) (logisticsLeft s)
+  logistics s n = cond (L .extension) (logisticsRead s n) (logisticsLeft s)

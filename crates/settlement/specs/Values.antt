@@ -26,12 +26,12 @@ use Rattle.names.specs.declared.term.Term.the-variants as Term
 use Rattle.report.specs.Rows.{Entry}
 use Rattle.settlement.specs.Document.{Doc, maybe, or}
 
--- what is lent beside the table: mode, rules number, invoice currency and specification identifier (none where empty)
+-- what is lent beside the table: mode, rules number, invoice currency (none where empty), and whether the specification identifier is that of a conformant extension (document 01, `read.rs`: a logistics charge)
 pub record Lent : Type 0 where
   pub mode : ℕ
   pub rules : ℕ
   pub currency : List ℕ
-  pub identifier : List ℕ
+  pub extension : Bool
 
 -- where an entry is made: path, term, and the index of the term's group
 pub record Site : Type 0 where

@@ -1,5 +1,6 @@
 // The children that say when and how is paid: billing period, payment terms, and payment means with its
 // transfers.
+ghost use mathlib.Core.Bool.{Bool};
 ghost use mathlib.Core.List.{List};
 ghost use Prim.Native.Nat.{ℕ};
 ghost use lib.IntN.{ℤ};
@@ -41,7 +42,7 @@ fn period(
     next: Next,
     c: usize,
 ) -> Billed
-    ensures { λ r. ⌜ ((rules : ℕ) (currency identifier : List ℕ) (p : Plain) (t : Tally) (m : MaybeTotals) (h u : List ℤ) → Stepped period (lentWith mode rules currency identifier) (linkDoc (now (table .entry)) (now (text .entry)) (now (links .entry))) (now (text .entry)) c (state p t billing m next) (state p t (r .billing) m (r .next)) h h (now (entries .entry)) (now (entries .exit)) u u) ⌝ }
+    ensures { λ r. ⌜ ((rules : ℕ) (currency : List ℕ) (extension : Bool) (p : Plain) (t : Tally) (m : MaybeTotals) (h u : List ℤ) → Stepped period (lentWith mode rules currency extension) (linkDoc (now (table .entry)) (now (text .entry)) (now (links .entry))) (now (text .entry)) c (state p t billing m next) (state p t (r .billing) m (r .next)) h h (now (entries .entry)) (now (entries .exit)) u u) ⌝ }
 {
     let said = groups::period(table, text, links, mode, entries, next.at, c);
     let found = said.period;
@@ -68,7 +69,7 @@ fn payment_terms(
     next: Next,
     c: usize,
 ) -> Billed
-    ensures { λ r. ⌜ ((rules : ℕ) (currency identifier : List ℕ) (p : Plain) (t : Tally) (m : MaybeTotals) (h u : List ℤ) → Stepped paymentTerms (lentWith mode rules currency identifier) (linkDoc (now (table .entry)) (now (text .entry)) (now (links .entry))) (now (text .entry)) c (state p t billing m next) (state p t (r .billing) m (r .next)) h h (now (entries .entry)) (now (entries .exit)) u u) ⌝ }
+    ensures { λ r. ⌜ ((rules : ℕ) (currency : List ℕ) (extension : Bool) (p : Plain) (t : Tally) (m : MaybeTotals) (h u : List ℤ) → Stepped paymentTerms (lentWith mode rules currency extension) (linkDoc (now (table .entry)) (now (text .entry)) (now (links .entry))) (now (text .entry)) c (state p t billing m next) (state p t (r .billing) m (r .next)) h h (now (entries .entry)) (now (entries .exit)) u u) ⌝ }
 {
     let said = groups::payment_terms(table, text, links, mode, entries, next.at, c);
     let found = said.terms;
@@ -140,7 +141,7 @@ pub fn billing_child(
     kind: BillingKind,
     c: usize,
 ) -> Billed
-    ensures { λ r. ⌜ ((rules : ℕ) (currency identifier : List ℕ) (p : Plain) (t : Tally) (m : MaybeTotals) → Stepped (billingIs kind) (lentWith mode rules currency identifier) (linkDoc (now (table .entry)) (now (text .entry)) (now (links .entry))) (now (text .entry)) c (state p t billing m next) (state p t (r .billing) m (r .next)) (now (held .entry)) (now (held .exit)) (now (entries .entry)) (now (entries .exit)) (now (unmapped .entry)) (now (unmapped .exit))) ⌝ }
+    ensures { λ r. ⌜ ((rules : ℕ) (currency : List ℕ) (extension : Bool) (p : Plain) (t : Tally) (m : MaybeTotals) → Stepped (billingIs kind) (lentWith mode rules currency extension) (linkDoc (now (table .entry)) (now (text .entry)) (now (links .entry))) (now (text .entry)) c (state p t billing m next) (state p t (r .billing) m (r .next)) (now (held .entry)) (now (held .exit)) (now (entries .entry)) (now (entries .exit)) (now (unmapped .entry)) (now (unmapped .exit))) ⌝ }
 {
     match kind {
         BillingKind::Period => period(table, text, links, mode, entries, billing, next, c),

@@ -1,4 +1,5 @@
 // The child that is the summation.
+ghost use mathlib.Core.Bool.{Bool};
 ghost use mathlib.Core.List.{List};
 ghost use Prim.Native.Nat.{ℕ};
 ghost use lib.IntN.{ℤ};
@@ -34,7 +35,7 @@ pub fn summation(
     next: Next,
     c: usize,
 ) -> Summed
-    ensures { λ r. ⌜ ((identifier : List ℕ) (t : Tally) (b : Billing) (m : MaybeTotalsOf.MaybeTotals) (h : List ℤ) → Stepped summation (lentWith mode rules (now (currency .entry)) identifier) (linkDoc (now (table .entry)) (now (text .entry)) (now (links .entry))) (now (text .entry)) c (state plain t b m next) (state plain t b (r .totals) (r .next)) h h (now (entries .entry)) (now (entries .exit)) (now (unmapped .entry)) (now (unmapped .exit))) ⌝ }
+    ensures { λ r. ⌜ ((extension : Bool) (t : Tally) (b : Billing) (m : MaybeTotalsOf.MaybeTotals) (h : List ℤ) → Stepped summation (lentWith mode rules (now (currency .entry)) extension) (linkDoc (now (table .entry)) (now (text .entry)) (now (links .entry))) (now (text .entry)) c (state plain t b m next) (state plain t b (r .totals) (r .next)) h h (now (entries .entry)) (now (entries .exit)) (now (unmapped .entry)) (now (unmapped .exit))) ⌝ }
 {
     let bt5 = plain.invoice_currency;
     let bt6 = plain.tax_currency;

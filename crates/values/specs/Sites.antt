@@ -1,6 +1,6 @@
 -- What the code's values mean.
-use mathlib.Core.Bool.{Bool, cond}
-use mathlib.Core.List.{List, []}
+use mathlib.Core.Bool.{Bool, false, cond}
+use mathlib.Core.List.{List}
 use mathlib.Core.Option.{Option}
 use Prim.Native.Nat.{ℕ}
 use lib.IntN.{ℤ}
@@ -18,12 +18,12 @@ abbrev pub siteOf : Code.Site → Site
 siteOf s = record { path = s .path; term = s .term; index = indexOf (s .index) }
 
 -- what is lent beside the table
-abbrev pub lentWith : ℕ → ℕ → List ℕ → List ℕ → Lent
-lentWith mode rules currency identifier = record { mode = mode; rules = rules; currency = currency; identifier = identifier }
+abbrev pub lentWith : ℕ → ℕ → List ℕ → Bool → Lent
+lentWith mode rules currency extension = record { mode = mode; rules = rules; currency = currency; extension = extension }
 
--- the same where nothing looks at the identifier
+-- the same where nothing asks for an extension
 abbrev pub lentOf : ℕ → ℕ → List ℕ → Lent
-lentOf mode rules currency = lentWith mode rules currency []
+lentOf mode rules currency = lentWith mode rules currency false
 
 -- the percentage that an element's text spells
 unfoldable pub parsedPercent : ℕ → Doc ℕ Place → Site → ℕ → Says Place (Option (ℤ × ℕ))

@@ -36,11 +36,7 @@ pub fn required_code(
     let content = element::kid_text(table, text, links, 0, n, want);
     match content {
         Text::Absent => RequiredCode {
-            code: Place {
-                start: 0,
-                skip: 0,
-                len: 0,
-            },
+            code: Place::new(0, 0, 0),
             at: missing(entries, at, rules, rule, site),
         },
         Text::At(p) => RequiredCode { code: p, at },

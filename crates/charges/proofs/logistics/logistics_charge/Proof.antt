@@ -7,12 +7,12 @@ use Rattle.charges.proofs.logistics.logistics_charge.Tie as tie
 
 returns : tie.Need-returns
 unfolding logisticsSays
-returns c = rw (← c .before .before .before .before .before .is-conformant .ensures, c .before .before .before .before .if1 .taken) (charge-told _ _ _ _ (c .before .before .logistics-row .ensures))
+returns c = rw (c .before .before .before .before .if1 .taken) (charge-told _ _ _ _ (c .before .before .logistics-row .ensures))
 
 returns-2 : tie.Need-returns-2
 unfolding logisticsSays
-returns-2 c = rw (← c .before .before .before .before .before .is-conformant .ensures, c .before .before .before .before .if1 .left) (told-said (rw (c .before .before .before .site .ensures) at (c .before .say .ensures)))
+returns-2 c = rw (c .before .before .before .before .if1 .left) (told-said (rw (c .before .before .before .site .ensures) at (c .before .say .ensures)))
 
 pub logistics-charge-spec : {M : Type 1} → statement M
 logistics-charge-spec =
-    tie.close (tie.spec (λ c κs. search needs) (λ c κs. search needs) (λ c. search needs) returns (λ c κs. search needs) (λ c κs. search needs) (λ c. search needs) returns-2)
+    tie.close (tie.spec (λ c κs. search needs) (λ c. search needs) returns (λ c κs. search needs) (λ c κs. search needs) (λ c. search needs) returns-2)

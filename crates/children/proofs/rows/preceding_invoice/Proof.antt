@@ -10,8 +10,8 @@ use Rattle.children.proofs.rows.preceding_invoice.Tie as tie
 
 returns : tie.Need-returns
 unfolding stepBy actBy own home sameKind
-returns c currency identifier p b m u =
-    let acted = preceding-acted _ _ currency identifier _ _ _ (c .before .before .before .before .before .before .preceding .ensures) (c .before .put-preceding .ensures) _ u _ in
+returns c currency extension p b m u =
+    let acted = preceding-acted _ _ currency extension _ _ _ (c .before .before .before .before .before .before .preceding .ensures) (c .before .put-preceding .ensures) _ u _ in
     record { state = lanes refl refl refl refl refl refl refl refl refl refl refl refl (acted .same) refl refl; held = acted .held; said = acted .said; noted = acted .noted }
 
 pub preceding-invoice-spec : {M : Type 1} → statement M

@@ -3,16 +3,16 @@ use Rattle.children.proofs.rows.row_child.Statement.{statement}
 use Rattle.children.proofs.rows.row_child.Tie as tie
 
 vat-breakdown-requires : tie.Need-vat-breakdown-requires
-vat-breakdown-requires c κs = c .before .before .before .before .before .before .before .before .before .pre .breakdowns
+vat-breakdown-requires c κs = c .before .before .before .before .before .before .before .before .pre .breakdowns
 
 allowance-charge-requires : tie.Need-allowance-charge-requires
-allowance-charge-requires c κs = (c .before .before .before .before .before .before .before .before .before .pre .allowances, c .before .before .before .before .before .before .before .before .before .pre .charges)
+allowance-charge-requires c κs = (c .before .before .before .before .before .before .before .before .pre .allowances, c .before .before .before .before .before .before .before .before .pre .charges)
 
 logistics-charge-requires : tie.Need-logistics-charge-requires
-logistics-charge-requires c κs = c .before .before .before .before .before .before .before .before .before .pre .charges
+logistics-charge-requires c κs = c .before .before .before .before .before .before .before .before .pre .charges
 
 preceding-invoice-requires : tie.Need-preceding-invoice-requires
-preceding-invoice-requires c κs = c .before .before .before .before .before .before .before .before .before .pre .invoices
+preceding-invoice-requires c κs = c .before .before .before .before .before .before .before .before .pre .invoices
 
 returns : tie.Need-returns
 returns c p b m u = rw (c .before .before .before .before .before .enum-told .given .1) (c .before .before .vat-breakdown .ensures _ p b m u)

@@ -12,11 +12,11 @@ use Rattle.children.proofs.walk.read_children.Statement.{statement}
 use Rattle.children.proofs.walk.read_children.Tie as tie
 
 abbrev Inv-loop : tie.InvT-loop
-Inv-loop table text links mode rules currency identifier held₀ entries₀ unmapped₀ n plain₀ tally₀ billing₀ totals₀ next₀ c₀ left₀ held entries unmapped plain tally billing totals next c left =
-    Reached (lentWith mode rules currency identifier) table text links n (state plain₀ tally₀ billing₀ totals₀ next₀) held₀ entries₀ unmapped₀ left c (state plain tally billing totals next) held entries unmapped × (left ≤ length links / 3) × (length held ≡ length held₀) × (length entries ≡ length entries₀) × (length unmapped ≡ length unmapped₀)
+Inv-loop table text links mode rules currency extension held₀ entries₀ unmapped₀ n plain₀ tally₀ billing₀ totals₀ next₀ c₀ left₀ held entries unmapped plain tally billing totals next c left =
+    Reached (lentWith mode rules currency extension) table text links n (state plain₀ tally₀ billing₀ totals₀ next₀) held₀ entries₀ unmapped₀ left c (state plain tally billing totals next) held entries unmapped × (left ≤ length links / 3) × (length held ≡ length held₀) × (length entries ≡ length entries₀) × (length unmapped ≡ length unmapped₀)
 
 abbrev μ-loop : tie.MeasureT-loop
-μ-loop table text links mode rules currency identifier held₀ entries₀ unmapped₀ n plain₀ tally₀ billing₀ totals₀ next₀ c₀ left₀ held entries unmapped plain tally billing totals next c left =
+μ-loop table text links mode rules currency extension held₀ entries₀ unmapped₀ n plain₀ tally₀ billing₀ totals₀ next₀ c₀ left₀ held entries unmapped plain tally billing totals next c left =
     left
 
 loop-holds : tie.Need-loop-holds Inv-loop μ-loop

@@ -5,8 +5,7 @@ use Rattle.element.proofs.texts.shown.Tie as tie
 
 returns : tie.Need-returns
 unfolding shows
-returns c = rw (← c .before .before .before .wide .ensures, ← c .before .before .wide2 .ensures, ← c .before .wide3 .ensures) (c .clip .ensures)
+returns c = c .bytes .ensures
 
 pub shown-spec : {M : Type 1} → statement M
-shown-spec =
-    tie.close (tie.spec (λ c κs. search needs) (λ c κs. search needs) (λ c. search needs) (λ c κs. search needs) (λ c κs. search needs) returns)
+shown-spec = tie.close (tie.spec (λ c κs. search needs) returns)

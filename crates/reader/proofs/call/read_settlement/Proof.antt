@@ -7,12 +7,12 @@ use Rattle.reader.proofs.call.read_settlement.Tie as tie
 
 read-linked-requires : tie.Need-read-linked-requires
 read-linked-requires c κs =
-    let p = c .before .before .before .before .before .before .before .before .before .before .before .before .pre in
+    let p = c .before .before .before .before .before .before .before .before .before .before .before .pre in
     (p .0, p .1, own-document _ _ _ 768 (c .before .before .before .before .before .link .ensures) (omega arith) (omega arith))
 
 read-linked-requires-2 : tie.Need-read-linked-requires-2
 read-linked-requires-2 c κs =
-    let p = c .before .before .before .before .before .before .before .before .before .before .before .before .pre in
+    let p = c .before .before .before .before .before .before .before .before .before .before .before .pre in
     (p .0, p .1, own-document _ _ _ 12288 (c .before .before .before .before .before .link2 .ensures) (omega (arith, accepted-is _ _ (p .0) .few-records)) (omega arith))
 
 pub read-settlement-spec : {M : Type 1} → statement M

@@ -22,8 +22,8 @@ returns c =
     (literal
     (cell (p1 .to-minor-units .ok) (p1 .to-minor-units .ensures)
     (cell (p2 .to-minor-units2 .ok) (p2 .to-minor-units2 .ensures)
-    (cell (p3 .place-start .ok) (p3 .place-start .ensures)
-    (cell (p4 .place-length .ok) (p4 .place-length .ensures)
+    (cell (p3 .start .ok) (p3 .start .ensures)
+    (cell (p4 .length .ok) (p4 .length .ensures)
     (cell (p5 .percent-unscaled .ok) (p5 .percent-unscaled .ensures)
     (cell (p6 .percent-scale .ok) (p6 .percent-scale .ensures)
     (cell (p7 .text-start .ok) (p7 .text-start .ensures)

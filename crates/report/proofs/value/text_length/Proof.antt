@@ -7,7 +7,7 @@ returns : tie.Need-returns
 returns c = simp (c .enum-told .given .1)
 
 returns-2 : tie.Need-returns-2
-returns-2 c = rw (c .before .before .t .given .1) (carried (c .place-length .ok) (c .place-length .ensures))
+returns-2 c = rw (c .before .before .t .given .1) (carried (c .length .ok) (c .length .ensures))
 
 pub text-length-spec : {M : Type 1} → statement M
 text-length-spec =

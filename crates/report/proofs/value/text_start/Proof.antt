@@ -7,7 +7,7 @@ returns : tie.Need-returns
 returns c = simp (c .enum-told .given .1)
 
 returns-2 : tie.Need-returns-2
-returns-2 c = rw (c .before .before .t .given .1) (carried (c .place-start .ok) (c .place-start .ensures))
+returns-2 c = rw (c .before .before .t .given .1) (carried (c .start .ok) (c .start .ensures))
 
 pub text-start-spec : {M : Type 1} → statement M
 text-start-spec =

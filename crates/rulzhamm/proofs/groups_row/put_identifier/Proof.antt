@@ -16,11 +16,11 @@ put-row-requires c κs = search needs
 enum-known-i : tie.Need-enum-known-i
 enum-known-i c = search needs
 
-place-start-requires : tie.Need-place-start-requires
-place-start-requires c κs = search needs
+start-requires : tie.Need-start-requires
+start-requires c κs = search needs
 
-place-length-requires : tie.Need-place-length-requires
-place-length-requires c κs = search needs
+length-requires : tie.Need-length-requires
+length-requires c κs = search needs
 
 text-start-requires : tie.Need-text-start-requires
 text-start-requires c κs = search needs
@@ -49,7 +49,7 @@ returns-2 c =
     let p3 = p4 .before in
     let p2 = p3 .before in
     let p1 = p2 .before in
-    rw (c .before .before .before .before .before .before .before .before .before .before .i .given .1) (as-row _ _ (cell (p1 .place-start .ok) (p1 .place-start .ensures) (cell (p2 .place-length .ok) (p2 .place-length .ensures) (cell (p3 .text-start .ok) (p3 .text-start .ensures) (cell (p4 .text-length .ok) (p4 .text-length .ensures) refl)))) (c .before .put-row2 .ensures))
+    rw (c .before .before .before .before .before .before .before .before .before .before .i .given .1) (as-row _ _ (cell (p1 .start .ok) (p1 .start .ensures) (cell (p2 .length .ok) (p2 .length .ensures) (cell (p3 .text-start .ok) (p3 .text-start .ensures) (cell (p4 .text-length .ok) (p4 .text-length .ensures) refl)))) (c .before .put-row2 .ensures))
 
 pub put-identifier-spec : {M : Type 1} → statement M
 put-identifier-spec =
@@ -59,8 +59,8 @@ put-identifier-spec =
     slice-aggregate-put-row
     put-row-requires
     enum-known-i
-    place-start-requires
-    place-length-requires
+    start-requires
+    length-requires
     text-start-requires
     text-length-requires
     slice-aggregate-put-row-2
