@@ -7,8 +7,8 @@ use lib.ListN.{length, drop}
 use Rattle.date.specs.Date.{dateOf}
 use Rattle.date.specs.Walk.{gathered}
 use Rattle.date.proofs.Walking.{gathered-is, date-length, number-room, walk-on, walk-stop, walk-end}
-use Rattle.date.proofs.date_of.Statement.{statement}
-use Rattle.date.proofs.date_of.Tie as tie
+use Rattle.date.proofs.parse_trimmed.Statement.{statement}
+use Rattle.date.proofs.parse_trimmed.Tie as tie
 
 abbrev Inv-loop : tie.InvT-loop
 Inv-loop t n₀ i₀ n i = (length t ≡ 8) × (i ≤ length t) × (n < 10 ^ i) × (dateOf t ≡ gathered n (drop i t))
@@ -49,8 +49,8 @@ from-number-requires c κs = search needs
 returns-3 : tie.Need-returns-3 Inv-loop μ-loop
 returns-3 c = search walk-end
 
-pub date-of-spec : {M : Type 1} → statement M
-date-of-spec =
+pub parse-trimmed-spec : {M : Type 1} → statement M
+parse-trimmed-spec =
     tie.close
     (tie.spec
     Inv-loop
