@@ -1,7 +1,7 @@
 use borrow.Author.Needs.{needs}
 use Rattle.settlement.specs.Values.{amountMessage}
-use Rattle.money.proofs.amounts.message_of.Statement.{statement}
-use Rattle.money.proofs.amounts.message_of.Tie as tie
+use Rattle.money.proofs.heard.message_of.Statement.{statement}
+use Rattle.money.proofs.heard.message_of.Tie as tie
 
 returns : tie.Need-returns
 unfolding amountMessage
