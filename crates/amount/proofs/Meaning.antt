@@ -227,12 +227,20 @@ unfolding run percentageOf decimal fraction whole unsigned pastDigits digitsOf p
 rate-run [] = refl
 rate-run (b ∷ s) = rate-some b s
 
--- the code of `parse`, in its own terms: t is what trimming left, w the walk over it, r its end
-module _ (s : List ℕ) (mode : ℕ) (t : List ℕ) (et : t ≡ trimOf mode s) (w : Walk) (ew : w ≡ run Start t) where
-  pub amount-parsed : (r : ParsedAmount) → r ≡ finishOf w → amountAnswer r ≡ parsedAmount mode s
-  unfolding parsedAmount
-  amount-parsed r e = ap amountAnswer e ∙ rw (ew, ← et) (finish-run t)
+-- the code of `parse_trimmed`, in its own terms: w is the walk over s, r its end
+module _ (s : List ℕ) (w : Walk) (ew : w ≡ run Start s) where
+  pub amount-read : (r : ParsedAmount) → r ≡ finishOf w → amountAnswer r ≡ amountOf s
+  amount-read r e = ap amountAnswer e ∙ rw ew (finish-run s)
 
-  pub percentage-parsed : (r : ParsedPercentage) → r ≡ rateOf w → percentageAnswer r ≡ parsedPercentage mode s
+  pub percentage-read : (r : ParsedPercentage) → r ≡ rateOf w → percentageAnswer r ≡ percentageOf s
+  percentage-read r e = ap percentageAnswer e ∙ rw ew (rate-run s)
+
+-- the code of `parse`: t is what trimming left
+module _ (s : List ℕ) (mode : ℕ) (t : List ℕ) (et : t ≡ trimOf mode s) where
+  pub amount-parsed : (a : Answer ℤ) → a ≡ amountOf t → a ≡ parsedAmount mode s
+  unfolding parsedAmount
+  amount-parsed a e = e ∙ rw et
+
+  pub percentage-parsed : (a : Answer (ℤ × ℕ)) → a ≡ percentageOf t → a ≡ parsedPercentage mode s
   unfolding parsedPercentage
-  percentage-parsed r e = ap percentageAnswer e ∙ rw (ew, ← et) (rate-run t)
+  percentage-parsed a e = e ∙ rw et

@@ -1,7 +1,7 @@
 // `InvoiceAmount`: a monetary amount in hundredths (EN 16931-1, 6.5.2).
 ghost use mathlib.Core.Path.{_≡_};
 ghost use lib.IntN.{pos};
-ghost use Rattle.amount.specs.Amount.{parsedAmount};
+ghost use Rattle.amount.specs.Amount.{amountOf, parsedAmount};
 ghost use Rattle.amount.specs.Answers.{amountAnswer};
 ghost use Rattle.amount.specs.Walk.{ranged, padded, endedOf, finishOf};
 use crate::decimal::Walk;
@@ -95,11 +95,18 @@ impl InvoiceAmount {
         InvoiceAmount(0)
     }
 
+    // The amount that s writes as it stands, for a text that is trimmed already.
+    pub fn parse_trimmed(s: &[u8]) -> ParsedAmount
+        ensures { λ r. ⌜ amountAnswer r ≡ amountOf (now (s .entry)) ⌝ }
+    {
+        finish(walk_on(s, Walk::Start))
+    }
+
     // The amount that s, trimmed in a mode, writes.
     pub fn parse(s: &[u8], mode: u32) -> ParsedAmount
         ensures { λ r. ⌜ amountAnswer r ≡ parsedAmount mode (now (s .entry)) ⌝ }
     {
-        finish(walk_on(characters::trimmed_text(s, mode), Walk::Start))
+        InvoiceAmount::parse_trimmed(characters::trimmed_text(s, mode))
     }
 
     // The hundredths, for the writer of numbers.

@@ -2,7 +2,7 @@
 ghost use mathlib.Core.Path.{_≡_};
 ghost use Prim.Native.Nat.{_<_};
 ghost use Rattle.amount.specs.Decimal.{signed};
-ghost use Rattle.amount.specs.Percentage.{parsedPercentage};
+ghost use Rattle.amount.specs.Percentage.{percentageOf, parsedPercentage};
 ghost use Rattle.amount.specs.Answers.{percentageAnswer};
 ghost use Rattle.amount.specs.Walk.{rated, rateOf};
 use crate::decimal::Walk;
@@ -69,11 +69,18 @@ fn finish(w: Walk) -> ParsedPercentage
 }
 
 impl Percentage {
+    // The percentage that s writes as it stands, for a text that is trimmed already.
+    pub fn parse_trimmed(s: &[u8]) -> ParsedPercentage
+        ensures { λ r. ⌜ percentageAnswer r ≡ percentageOf (now (s .entry)) ⌝ }
+    {
+        finish(walk_on(s, Walk::Start))
+    }
+
     // The percentage that s, trimmed in a mode, writes.
     pub fn parse(s: &[u8], mode: u32) -> ParsedPercentage
         ensures { λ r. ⌜ percentageAnswer r ≡ parsedPercentage mode (now (s .entry)) ⌝ }
     {
-        finish(walk_on(characters::trimmed_text(s, mode), Walk::Start))
+        Percentage::parse_trimmed(characters::trimmed_text(s, mode))
     }
 
     // The number without its point, for the writer of numbers.

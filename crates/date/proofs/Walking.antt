@@ -46,7 +46,7 @@ date-length t n = rw (ne-eqb (length t) 8 n)
 pub number-room : (t : List ℕ) (n i : ℕ) → length t ≡ 8 → i < length t → n < 10 ^ i → n < 10000000
 number-room t n i l h r = let p : 10 ^ i ≤ 10 ^ 7 = pow-le-pow-right {n = 10} (omega arith) {i = i} {j = 7} (omega arith) in omega arith
 
--- the loop of `date_of`, at i: a digit, another byte; and after it
+-- the loop of `parse_trimmed`, at i: a digit, another byte; and after it
 module _ (t : List ℕ) (n i : ℕ) (e : dateOf t ≡ gathered n (drop i t)) where
   module _ (d : Bool) (h : i < length t) (q : d ≡ digit (getD t i 0)) where
     pub walk-on : (m : ℕ) → d ≡ true → m ≡ 10 * n + (getD t i 0 - 48) → dateOf t ≡ gathered m (drop (i + 1) t)

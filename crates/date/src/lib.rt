@@ -90,8 +90,9 @@ fn from_number(n: u32) -> ParsedDate
     ParsedDate::NotACalendarDay
 }
 
-// The date that the whole of t writes. One pass gathers the number, which is then parted.
-fn date_of(t: &[u8]) -> ParsedDate
+// The date that the whole of t writes, for a text that is trimmed already. One pass gathers the
+// number, which is then parted.
+pub fn parse_trimmed(t: &[u8]) -> ParsedDate
     ensures { λ r. ⌜ dateAnswer r ≡ dateOf (now (t .entry)) ⌝ }
 {
     if t.len() != 8 {
@@ -115,5 +116,5 @@ fn date_of(t: &[u8]) -> ParsedDate
 pub fn parse(s: &[u8], mode: u32) -> ParsedDate
     ensures { λ r. ⌜ dateAnswer r ≡ parsedDate mode (now (s .entry)) ⌝ }
 {
-    date_of(characters::trimmed_text(s, mode))
+    parse_trimmed(characters::trimmed_text(s, mode))
 }

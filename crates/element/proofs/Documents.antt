@@ -9,6 +9,7 @@ use native.Mathlib.Nat.{add-zero}
 use borrow.Author.Tests.{eq-eqb, ne-eqb, le-leb, lt-leb, eqb-true, leb-true, leb-false}
 use lib.Dec.{eqb, leb}
 use lib.ListN.{length, take, drop, length-drop}
+use lib.Seq.{take-take, drop-drop}
 use Rattle.text.specs.Span.{clipped, cut}
 use Rattle.text.specs.declared.span.Span.{Span}
 use Rattle.characters.specs.Trim.{trimmed, trimOf}
@@ -18,9 +19,9 @@ use Rattle.table.specs.Table.{cell, nameOf, textOf, named, found, firstOf}
 use Rattle.links.specs.Links.{linked, roomy, linkAll, Blank}
 use Rattle.links.proofs.Linking.{linked-kids, linked-attrs}
 use Rattle.report.specs.Rows.{Place}
-use Rattle.settlement.specs.Document.{Doc, maybe}
+use Rattle.settlement.specs.Document.{Doc, maybe, or}
 use Rattle.settlement.specs.TableDoc.{textAt, ownTextAt, shows, tableDoc}
-use Rattle.settlement.specs.Values.{trimIn, filled, textIn, textBytes, first, kid, attribute}
+use Rattle.settlement.specs.Values.{trimIn, filled, textIn, ownText, textBytes, first, kid, attribute}
 use Rattle.element.specs.LinkDoc.{linkDoc}
 use Rattle.element.specs.Trimmed.{trimmedAt}
 
@@ -53,6 +54,13 @@ clipped-short x a n = take-short n (drop a x)
     take-short zero l = omega arith
     take-short (suc n) [] = omega arith
     take-short (suc n) (b ∷ l) = omega (arith, take-short n l)
+
+-- a part of a part
+inner : (n s m : ℕ) (l : List ℕ) → s + m ≤ n → take m (drop s (take n l)) ≡ take m (drop s l)
+inner n zero m l h = take-take m n l (omega arith)
+inner zero (suc s) m l h = absurd (omega arith)
+inner (suc n) (suc s) m [] h = refl
+inner (suc n) (suc s) m (b ∷ l) h = inner n s m l (omega arith)
 
 -- what trimming leaves of a part
 module _ (x : List ℕ) (mode a n : ℕ) where
@@ -122,13 +130,30 @@ module _ (t x l : List ℕ) where
       go true e = ap (trimmedAt x mode (cell t r 4)) (eqb-true (cell t r 5) 0 e) ∙ trimmed-empty x mode (cell t r 4)
       go false e = filled-is mode (cell t r 4) (cell t r 5)
 
-  pub text-bytes-is : (r : ℕ) → textOf t x r ≡ textBytes D r
+  text-bytes-is : (r : ℕ) → textOf t x r ≡ textBytes D r
   unfolding textBytes ownTextAt textOf shows clipped
   text-bytes-is r = go (eqb (cell t r 5) 0) refl
     where
       go : (b : Bool) → eqb (cell t r 5) 0 ≡ b → take (cell t r 5) (drop (cell t r 4) x) ≡ maybe [] (shows x) (cond b none (some (textAt t r)))
       go true e = ap (λ (n : ℕ). take n (drop (cell t r 4) x)) (eqb-true (cell t r 5) 0 e)
       go false e = refl
+
+  -- the bytes of a text as a mode trims it are what trimming leaves of its bytes
+  pub own-shown : (mode r : ℕ) → shows x (ownText D mode r) ≡ trimOf mode (textBytes D r)
+  unfolding ownText trimmedAt shows trimOf cut clipped textOf
+  own-shown mode r = rw (← text-in-is mode r, ← text-bytes-is r) (go (trimmed mode (textOf t x r) .start) (trimmed mode (textOf t x r) .end) (kept-in x mode (cell t r 4) (cell t r 5)))
+    where
+      go : (s f : ℕ) → (s ≤ f) × (f ≤ cell t r 5) → shows x (or (record { start = 0; len = 0 }) (cond {A = Option Place} (leb f s) none (some (record { start = cell t r 4 + s; len = f - s })))) ≡ take (f - s) (drop s (take (cell t r 5) (drop (cell t r 4) x)))
+      go s f h = side (leb f s) refl
+        where
+          side : (b : Bool) → leb f s ≡ b → shows x (or (record { start = 0; len = 0 }) (cond {A = Option Place} b none (some (record { start = cell t r 4 + s; len = f - s })))) ≡ take (f - s) (drop s (take (cell t r 5) (drop (cell t r 4) x)))
+          side true q = let z : f - s ≡ 0 = omega (arith, leb-true f s q) in rw z
+          side false q = sym (inner (cell t r 5) s (f - s) (drop (cell t r 4) x) (omega (arith, h .0, h .1)) ∙ rw (drop-drop s (cell t r 4) x))
+
+  -- a text that is there is that text
+  pub own-is : {p : Place} (mode r : ℕ) → some p ≡ textIn D mode r → p ≡ ownText D mode r
+  unfolding ownText
+  own-is mode r e = rw (← e)
 
   -- the first of a name
   first-is : (w cs : List ℕ) → firstOf (named t x w) cs ≡ first D w cs

@@ -17,5 +17,4 @@ pub use texts::name;
 pub use texts::own_text;
 pub use texts::raw_text;
 pub use texts::shown;
-pub use texts::text_bytes;
 pub use texts::text_in;

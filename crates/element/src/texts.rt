@@ -2,7 +2,7 @@
 ghost use mathlib.Core.Path.{_≡_};
 ghost use Rattle.report.specs.Values.{placeOf, textOf};
 ghost use Rattle.settlement.specs.TableDoc.{nameAt, ownTextAt, shows};
-ghost use Rattle.settlement.specs.Values.{textIn, ownText, textBytes};
+ghost use Rattle.settlement.specs.Values.{textIn, ownText};
 ghost use Rattle.element.specs.LinkDoc.{linkDoc};
 ghost use Rattle.element.specs.Trimmed.{trimmedAt};
 use report::Place;
@@ -42,18 +42,6 @@ pub fn raw_text(table: &[u32], r: usize) -> Text
     }
     let start = table::field_of(table, r, Field::TextStart);
     Text::At(Place::new(start, 0, len))
-}
-
-// The bytes of the text of element r, none where it has none.
-pub fn text_bytes<'a, 'b, 'c>(
-    table: &'b [u32],
-    text: &'a [u8],
-    links: &'c [u16],
-    r: usize,
-) -> &'a [u8]
-    ensures { λ s. ⌜ now s ≡ textBytes (linkDoc (now (table .entry)) (now (text .entry)) (now (links .entry))) r ⌝ }
-{
-    table::joined_text(table, text, r)
 }
 
 // What trimming in a mode leaves of a record's text from start on, absent where that is nothing.

@@ -1,19 +1,46 @@
--- What the code's faults of a currency and missing amounts mean.
+-- What the code's faults of a currency, what was heard, and missing amounts mean.
+use mathlib.Core.List.{List, [], _∷_}
 use mathlib.Core.Option.{Option, none, some}
 use Prim.Native.Nat.{ℕ}
 use lib.IntN.{ℤ, pos}
+use Rattle.text.specs.Utf8.{bytes}
+use Rattle.amount.specs.Amount as Money
 use Rattle.codes.specs.declared.rules.Rule.{Rule}
 use Rattle.names.specs.declared.message.Message.{Message}
 use Rattle.names.specs.declared.path.Path.{Path}
 use Rattle.report.specs.Rows.{Place}
-use Rattle.settlement.specs.Values.{Site, Says, missing}
+use Rattle.report.specs.Values.{placeOf}
+use Rattle.settlement.specs.Document.{Doc, maybe}
+use Rattle.settlement.specs.TableDoc.{shows}
+use Rattle.settlement.specs.Values.{Site, Says, entry, missing, amountMessage, wrongCurrency, attribute}
+use Rattle.values.specs.Sites.{answeredAt}
 use Rattle.money.specs.declared.currencies.Fault.{Fault}
 use Rattle.money.specs.declared.currencies.Fault.the-variants.{Right, Wrong}
+use Rattle.money.specs.declared.heard.Heard.{Heard}
+use Rattle.money.specs.declared.heard.Heard.the-variants as Heard
 
 -- what is wrong with a currencyID, if anything
 abbrev pub faultOf : Fault → Option Message
 faultOf Right = none
 faultOf (Wrong m) = some m
+
+-- what was heard, said at a site: nothing, an amount, or an entry about a text
+abbrev pub saying : Heard → Site → Says Place (Option ℤ)
+saying Heard.Nothing s = (none, [])
+saying (Heard.Amount a) s = (some (a .0), [])
+saying (Heard.Fault m p) s = (none, entry m s (some (placeOf p)) ∷ [])
+
+-- the amount that a trimmed text spells
+unfoldable pub amountAt : List ℕ → Site → Place → Says Place (Option ℤ)
+amountAt x s p = answeredAt amountMessage s p (Money.amountOf (shows x p))
+
+-- beside a currency, which must be right
+unfoldable pub amountIn : List ℕ → List ℕ → Site → Place → Place → Says Place (Option ℤ)
+amountIn currency x s p id = maybe (amountAt x s p) (λ m. (none, entry m s (some id) ∷ [])) (wrongCurrency currency (shows x id))
+
+-- of an element, with or without a currency beside it
+unfoldable pub amountBeside : List ℕ → Doc ℕ Place → List ℕ → Site → ℕ → Place → Says Place (Option ℤ)
+amountBeside currency D x s e p = maybe (amountAt x s p) (amountIn currency x s p) (attribute D e (bytes "currencyID"))
 
 -- a required amount that is missing: 0, and message 9 with the path of its group
 unfoldable pub missingAmount : ℕ → Rule → Path → Site → Says Place ℤ

@@ -1,49 +1,42 @@
--- Laws of the first child of each optional amount's name.
-use mathlib.Core.Path.{_≡_, refl, sym, ap, _∙_}
-use mathlib.Core.Logic.{_≢_}
+-- Laws of what the first child of each optional amount's name says.
+use mathlib.Core.Path.{_≡_, refl, sym, ap, _∙_, fun-ext}
 use mathlib.Core.Bool.{Bool, true, false, cond, _&&_}
 use mathlib.Core.List.{List, [], _∷_}
 use mathlib.Core.Option.{Option, none, some}
-use Prim.Native.Nat.{ℕ, zero, suc}
+use Prim.Native.Nat.{ℕ}
 use Prim.Native.String.{String}
+use borrow.Author.Tests.{eqb-true}
+use lib.Dec.{eqb}
 use lib.IntN.{ℤ}
 use Rattle.text.specs.Order.{equal}
 use Rattle.text.specs.Utf8.{bytes, encode}
 use Rattle.text.proofs.Bools.{both, not-both}
 use Rattle.text.proofs.Orders.{equal-is, equal-refl}
-use Rattle.names.specs.declared.path.Path.the-variants as Path
-use Rattle.names.specs.declared.term.Term.the-variants as Term
 use Rattle.report.specs.Rows.{Place}
-use Rattle.settlement.specs.Document.{Doc, maybe, orElse}
+use Rattle.settlement.specs.Document.{Doc, maybe, or, orElse}
 use Rattle.settlement.specs.Kinds.{meant}
 use Rattle.settlement.specs.Shapes.{Currencies}
-use Rattle.settlement.specs.Summation.{Sum, required, allowanceTotal, chargeTotal, taxTotal, rounding, prepaid, Summing, sums, sumOf, summand, summing}
+use Rattle.settlement.specs.Summation.{Sum, required, taxTotal, Summing, sums, sumOf, taxTotalOf, summand, summing}
 use Rattle.settlement.specs.Summation as Def
-use Rattle.settlement.specs.Values.{Lent, Site, Says, site, first, kid, amountOf, amount}
-use Rattle.totals.specs.State.{withAllowance, withCharge, withRounding, withPaid}
-use Rattle.totals.specs.Firsts.{sameSum, orThis, firstFor, meeting, summandAt}
+use Rattle.settlement.specs.Values.{Lent, Site, Says, first, kid, amountOf, amount}
+use Rattle.money.specs.Amounts.{saying}
+use Rattle.money.specs.declared.heard.Heard.{Heard}
+use Rattle.totals.specs.State.{kindOf, sumIs, siteFor, withOptional}
+use Rattle.totals.specs.Firsts.{number, sameSum, Saying, firstSaid, unmet, firstOf, setFirst, remembering, saidFor, summandAt}
+use Rattle.totals.specs.declared.sum.Optional.{Optional}
+use Rattle.totals.specs.declared.sum.Optional.the-variants as Optional
+use Rattle.totals.specs.declared.sum.Sum as Code
+use Rattle.totals.specs.declared.sum.Sum.the-variants as CodeSum
+use Rattle.totals.specs.declared.firsts.First.{First}
+use Rattle.totals.specs.declared.firsts.First.the-variants.{Met}
 use Rattle.totals.specs.declared.firsts.Firsts.{Firsts}
 
--- what is held stays
-pub this-held : (h c : ℕ) → h ≢ 0 → h ≡ orThis h c
-this-held zero c z = absurd (z refl)
-this-held (suc h) c z = refl
-
--- the four optional amounts of the invoice's currency, the kind of each and its name
-pub data Optional : Type 0 where
-  allowance charge rounded paid : Optional
-
-abbrev kindOf : Optional → Sum
-kindOf allowance = allowanceTotal
-kindOf charge = chargeTotal
-kindOf rounded = rounding
-kindOf paid = prepaid
-
+-- the name of an optional amount
 abbrev wantOf : Optional → List ℕ
-wantOf allowance = bytes "AllowanceTotalAmount"
-wantOf charge = bytes "ChargeTotalAmount"
-wantOf rounded = bytes "RoundingAmount"
-wantOf paid = bytes "TotalPrepaidAmount"
+wantOf Optional.AllowanceTotal = bytes "AllowanceTotalAmount"
+wantOf Optional.ChargeTotal = bytes "ChargeTotalAmount"
+wantOf Optional.Rounding = bytes "RoundingAmount"
+wantOf Optional.Prepaid = bytes "TotalPrepaidAmount"
 
 -- of a list's names none but w has a kind that passes a test
 unfoldable only : {A : Type 0} → (A → Bool) → List ℕ → List (String × A) → Bool
@@ -70,23 +63,42 @@ module _ {A : Type 0} (p : A → Bool) (a : A) (w s : List ℕ) (f : equal s w �
 -- each of the four kinds has its name alone
 own-name : (q : Optional) → true ≡ sameSum (meant Def.unread sums (wantOf q)) (kindOf q)
 unfolding meant sums bytes encode equal
-own-name allowance = refl
-own-name charge = refl
-own-name rounded = refl
-own-name paid = refl
+own-name Optional.AllowanceTotal = refl
+own-name Optional.ChargeTotal = refl
+own-name Optional.Rounding = refl
+own-name Optional.Prepaid = refl
 
 alone : (q : Optional) → only (λ (k : Sum). sameSum k (kindOf q)) (wantOf q) sums ≡ true
 unfolding only sums bytes encode equal
-alone allowance = refl
-alone charge = refl
-alone rounded = refl
-alone paid = refl
+alone Optional.AllowanceTotal = refl
+alone Optional.ChargeTotal = refl
+alone Optional.Rounding = refl
+alone Optional.Prepaid = refl
+
+-- and no other kind is one of them
+required-other : (q : Optional) → sameSum required (kindOf q) ≡ false
+required-other Optional.AllowanceTotal = refl
+required-other Optional.ChargeTotal = refl
+required-other Optional.Rounding = refl
+required-other Optional.Prepaid = refl
+
+tax-other : (q : Optional) → sameSum taxTotal (kindOf q) ≡ false
+tax-other Optional.AllowanceTotal = refl
+tax-other Optional.ChargeTotal = refl
+tax-other Optional.Rounding = refl
+tax-other Optional.Prepaid = refl
 
 unread-other : (q : Optional) → sameSum Def.unread (kindOf q) ≡ false
-unread-other allowance = refl
-unread-other charge = refl
-unread-other rounded = refl
-unread-other paid = refl
+unread-other Optional.AllowanceTotal = refl
+unread-other Optional.ChargeTotal = refl
+unread-other Optional.Rounding = refl
+unread-other Optional.Prepaid = refl
+
+same-self : (q : Optional) → sameSum (kindOf q) (kindOf q) ≡ true
+same-self Optional.AllowanceTotal = refl
+same-self Optional.ChargeTotal = refl
+same-self Optional.Rounding = refl
+same-self Optional.Prepaid = refl
 
 name-kind : (q : Optional) (s : List ℕ) → equal s (wantOf q) ≡ sameSum (meant Def.unread sums s) (kindOf q)
 name-kind q s = go (equal s (wantOf q)) refl
@@ -95,81 +107,102 @@ name-kind q s = go (equal s (wantOf q)) refl
     go true e = rw (equal-is s (wantOf q) e) (own-name q)
     go false e = sym (meant-not (λ (k : Sum). sameSum k (kindOf q)) Def.unread (wantOf q) s e (unread-other q) sums (alone q))
 
--- what is held after a child c of kind k
-held-for : (q : Optional) (k : Sum) (c : ℕ) (f : Firsts) → firstFor (kindOf q) (meeting k c f) ≡ cond (sameSum k (kindOf q)) (orThis (firstFor (kindOf q) f) c) (firstFor (kindOf q) f)
-held-for allowance k c f = refl
-held-for charge k c f = refl
-held-for rounded k c f = refl
-held-for paid k c f = refl
+-- two of one kind are the same
+abbrev numbered : ℕ → Optional
+numbered n = cond (eqb n 1) Optional.AllowanceTotal (cond (eqb n 2) Optional.ChargeTotal (cond (eqb n 4) Optional.Rounding Optional.Prepaid))
 
-same-self : (q : Optional) → sameSum (kindOf q) (kindOf q) ≡ true
-same-self allowance = refl
-same-self charge = refl
-same-self rounded = refl
-same-self paid = refl
+numbered-is : (q : Optional) → numbered (number (kindOf q)) ≡ q
+numbered-is Optional.AllowanceTotal = refl
+numbered-is Optional.ChargeTotal = refl
+numbered-is Optional.Rounding = refl
+numbered-is Optional.Prepaid = refl
 
--- a child's number stands for it, and 0 for none
-abbrev child : ℕ → Option ℕ
-child zero = none
-child (suc c) = some (suc c)
+same-kind : (p q : Optional) → sameSum (kindOf p) (kindOf q) ≡ true → p ≡ q
+same-kind p q e = sym (numbered-is p) ∙ ap numbered (eqb-true (number (kindOf p)) (number (kindOf q)) e) ∙ numbered-is q
 
--- the first is that which is held, or else the first of the rest, of which c is the next
-held-turn : (h c : ℕ) (b : Bool) (o : Option ℕ) → c ≢ 0 → orElse (child h) (cond b (some c) o) ≡ orElse (child (cond b (orThis h c) h)) o
-held-turn zero zero b o z = absurd (z refl)
-held-turn zero (suc c) true o z = refl
-held-turn zero (suc c) false o z = refl
-held-turn (suc h) c true o z = refl
-held-turn (suc h) c false o z = refl
+-- what is remembered of q after a child of the name of p
+met-for : (q p : Optional) (h : Heard) (f : Firsts) → firstOf q (setFirst p h f) ≡ cond (sameSum (kindOf p) (kindOf q)) (Met h) (firstOf q f)
+met-for Optional.AllowanceTotal p h f = refl
+met-for Optional.ChargeTotal p h f = refl
+met-for Optional.Rounding p h f = refl
+met-for Optional.Prepaid p h f = refl
 
-held-some : (h c : ℕ) (o : Option ℕ) → c ≢ 0 → orElse (child (orThis h c)) o ≡ some (orThis h c)
-held-some zero zero o z = absurd (z refl)
-held-some zero (suc c) o z = refl
-held-some (suc h) c o z = refl
+-- what a child says as an amount, and what the first of a name says
+abbrev reads : ℕ → List ℕ → Doc ℕ Place → ℕ → Saying
+reads mode currency D c = λ s. amountOf mode currency D s c
 
--- the first child of each name is that which is held, or else the first among the rest of the children
-pub record Kept (D : Doc ℕ Place) (n : ℕ) (f : Firsts) (cs : List ℕ) : Type 0 where
-  pub first-is : (q : Optional) → kid D n (wantOf q) ≡ orElse (child (firstFor (kindOf q) f)) (first D (wantOf q) cs)
+abbrev readOf : ℕ → List ℕ → Doc ℕ Place → Option ℕ → Option Saying
+readOf mode currency D none = none
+readOf mode currency D (some c) = some (reads mode currency D c)
 
-module _ (D : Doc ℕ Place) (n : ℕ) where
-  -- nothing is held, and all are to come
-  pub kept-start : (f : Firsts) (cs : List ℕ) → f ≡ record { allowance = 0; charge = 0; rounding = 0; paid = 0 } → D .kids n ≡ cs → Kept D n f cs
+-- what the first child of each name says is what is remembered, or else what the first among the rest of the children says
+pub record Kept (mode : ℕ) (currency : List ℕ) (D : Doc ℕ Place) (n : ℕ) (f : Firsts) (cs : List ℕ) : Type 0 where
+  pub first-is : (q : Optional) → readOf mode currency D (kid D n (wantOf q)) ≡ orElse (firstSaid (firstOf q f)) (readOf mode currency D (first D (wantOf q) cs))
+
+module _ (mode : ℕ) (currency : List ℕ) (D : Doc ℕ Place) (n : ℕ) where
+  -- nothing is remembered, and all are to come
+  pub kept-start : (f : Firsts) (cs : List ℕ) → f ≡ unmet → D .kids n ≡ cs → Kept mode currency D n f cs
   unfolding kid
   kept-start f cs e p = record { first-is = go }
     where
-      go : (q : Optional) → first D (wantOf q) (D .kids n) ≡ orElse (child (firstFor (kindOf q) f)) (first D (wantOf q) cs)
-      go allowance = rw (e, p)
-      go charge = rw (e, p)
-      go rounded = rw (e, p)
-      go paid = rw (e, p)
+      go : (q : Optional) → readOf mode currency D (first D (wantOf q) (D .kids n)) ≡ orElse (firstSaid (firstOf q f)) (readOf mode currency D (first D (wantOf q) cs))
+      go Optional.AllowanceTotal = rw (e, p)
+      go Optional.ChargeTotal = rw (e, p)
+      go Optional.Rounding = rw (e, p)
+      go Optional.Prepaid = rw (e, p)
 
-  module _ (f : Firsts) (c : ℕ) (cs : List ℕ) (w : Kept D n f (c ∷ cs)) (z : c ≢ 0) (k : Sum) (e : k ≡ sumOf D c) where
-    pub kept-turn : Kept D n (meeting k c f) cs
+  -- the first of a name is remembered already, or is the next child c, or is among the rest
+  next-first : (c : ℕ) (b : Bool) (o : Option Saying) (r : Option ℕ) → orElse o (readOf mode currency D (cond b (some c) r)) ≡ orElse (cond b (some (or (reads mode currency D c) o)) o) (readOf mode currency D r)
+  next-first c true none r = refl
+  next-first c true (some a) r = refl
+  next-first c false o r = refl
+
+  -- a child c of kind k was read, of which h was said
+  module _ (f : Firsts) (c : ℕ) (cs : List ℕ) (w : Kept mode currency D n f (c ∷ cs)) (k : Code.Sum) (h : Heard) (e : sumIs k ≡ sumOf D c) (a : (s : Site) → saying h s ≡ saidFor k f (reads mode currency D c) s) where
+    remembered : (j : Code.Sum) → j ≡ k → (q : Optional) → firstSaid (firstOf q (remembering j h f)) ≡ cond (sameSum (sumIs j) (kindOf q)) (some (or (reads mode currency D c) (firstSaid (firstOf q f)))) (firstSaid (firstOf q f))
+    remembered CodeSum.Required g q = rw (required-other q)
+    remembered (CodeSum.Optional p) g q = rw (met-for q p h f) (go (sameSum (kindOf p) (kindOf q)) refl)
+      where
+        go : (b : Bool) → sameSum (kindOf p) (kindOf q) ≡ b → firstSaid (cond b (Met h) (firstOf q f)) ≡ cond b (some (or (reads mode currency D c) (firstSaid (firstOf q f)))) (firstSaid (firstOf q f))
+        go true t = ap some (fun-ext (λ (s : Site). a s ∙ ap (λ (i : Code.Sum). saidFor i f (reads mode currency D c) s) (sym g) ∙ ap (λ (i : Optional). or (reads mode currency D c) (firstSaid (firstOf i f)) s) (same-kind p q t)))
+        go false t = refl
+    remembered CodeSum.TaxTotal g q = rw (tax-other q)
+    remembered CodeSum.Unread g q = rw (unread-other q)
+
+    pub kept-turn : Kept mode currency D n (remembering k h f) cs
     unfolding first sumOf
-    kept-turn = record { first-is = λ (q : Optional). w .first-is q ∙ ap (λ (b : Bool). orElse (child (firstFor (kindOf q) f)) (cond b (some c) (first D (wantOf q) cs))) (name-kind q (D .bytes (D .name c)) ∙ ap (λ (j : Sum). sameSum j (kindOf q)) (sym e)) ∙ held-turn (firstFor (kindOf q) f) c (sameSum k (kindOf q)) (first D (wantOf q) cs) z ∙ ap (λ (h : ℕ). orElse (child h) (first D (wantOf q) cs)) (sym (held-for q k c f)) }
+    kept-turn = record { first-is = λ (q : Optional). w .first-is q ∙ ap (λ (b : Bool). orElse (firstSaid (firstOf q f)) (readOf mode currency D (cond b (some c) (first D (wantOf q) cs)))) (name-kind q (D .bytes (D .name c)) ∙ ap (λ (j : Sum). sameSum j (kindOf q)) (sym e)) ∙ next-first c (sameSum (sumIs k) (kindOf q)) (firstSaid (firstOf q f)) (first D (wantOf q) cs) ∙ ap (λ (o : Option Saying). orElse o (readOf mode currency D (first D (wantOf q) cs))) (sym (remembered k refl q)) }
 
-    -- the first child of the name of c itself is held
-    kept-read : (q : Optional) → k ≡ kindOf q → kid D n (wantOf q) ≡ some (firstFor (kindOf q) (meeting k c f))
-    kept-read q p =
-        let h : firstFor (kindOf q) (meeting k c f) ≡ orThis (firstFor (kindOf q) f) c = held-for q k c f ∙ rw (p, same-self q) in
-        kept-turn .first-is q ∙ ap (λ (i : ℕ). orElse (child i) (first D (wantOf q) cs)) h ∙ held-some (firstFor (kindOf q) f) c (first D (wantOf q) cs) z ∙ ap some (sym h)
-
-    -- so its amount is that of the first child of the name
-    amount-read : (q : Optional) → k ≡ kindOf q → (mode : ℕ) (currency : List ℕ) (t : Site) → amountOf mode currency D t (firstFor (kindOf q) (meeting k c f)) ≡ amount mode currency D t n (wantOf q)
+    -- so what is said of c is what the first child of its name says
+    amount-read : (q : Optional) → CodeSum.Optional q ≡ k → (s : Site) → saying h s ≡ amount mode currency D s n (wantOf q)
     unfolding amount
-    amount-read q p mode currency t = ap (maybe (none, []) (amountOf mode currency D t)) (sym (kept-read q p))
+    amount-read q p s =
+        let held : firstOf q (remembering k h f) ≡ Met h = ap (λ (j : Code.Sum). firstOf q (remembering j h f)) (sym p) ∙ met-for q q h f ∙ rw (same-self q) in
+        let r : readOf mode currency D (kid D n (wantOf q)) ≡ some (saying h) = kept-turn .first-is q ∙ ap (λ (i : First). orElse (firstSaid i) (readOf mode currency D (first D (wantOf q) cs))) held in
+        sym (at-site (kid D n (wantOf q)) ∙ ap (maybe (none, []) (λ (g : Saying). g s)) r)
+      where
+        at-site : (o : Option ℕ) → maybe (none, []) (amountOf mode currency D s) o ≡ maybe (none, []) (λ (g : Saying). g s) (readOf mode currency D o)
+        at-site none = refl
+        at-site (some e) = refl
 
--- what the code does with that child is what the definition says
-module _ (L : Lent) (D : Doc ℕ Place) (cur : Currencies Place) (n : ℕ) (f : Firsts) (c : ℕ) (cs : List ℕ) (w : Kept D n f (c ∷ cs)) (z : c ≢ 0) (s : Summing Place) where
-  summand-at : (k : Sum) → k ≡ sumOf D c → summandAt L D cur k (firstFor k (meeting k c f)) s c ≡ summand L D k cur n s c
-  unfolding summand
-  summand-at required e = refl
-  summand-at allowanceTotal e = ap (λ (a : Says Place (Option ℤ)). withAllowance a s) (amount-read D n f c cs w z allowanceTotal e allowance refl (L .mode) (L .currency) (site Path.SummationAllowanceTotalAmount Term.Bt107))
-  summand-at chargeTotal e = ap (λ (a : Says Place (Option ℤ)). withCharge a s) (amount-read D n f c cs w z chargeTotal e charge refl (L .mode) (L .currency) (site Path.SummationChargeTotalAmount Term.Bt108))
-  summand-at taxTotal e = refl
-  summand-at rounding e = ap (λ (a : Says Place (Option ℤ)). withRounding a s) (amount-read D n f c cs w z rounding e rounded refl (L .mode) (L .currency) (site Path.SummationRoundingAmount Term.Bt114))
-  summand-at prepaid e = ap (λ (a : Says Place (Option ℤ)). withPaid a s) (amount-read D n f c cs w z prepaid e paid refl (L .mode) (L .currency) (site Path.SummationTotalPrepaidAmount Term.Bt113))
-  summand-at Def.unread e = refl
+-- an optional amount's summand reads the first child of its name
+optional-summand : (q : Optional) (L : Lent) (D : Doc ℕ Place) (cur : Currencies Place) (n : ℕ) (s : Summing Place) (c : ℕ) → summand L D (kindOf q) cur n s c ≡ withOptional q (amount (L .mode) (L .currency) D (siteFor q) n (wantOf q)) s
+unfolding summand
+optional-summand Optional.AllowanceTotal L D cur n s c = refl
+optional-summand Optional.ChargeTotal L D cur n s c = refl
+optional-summand Optional.Rounding L D cur n s c = refl
+optional-summand Optional.Prepaid L D cur n s c = refl
 
-  pub summing-at : {k : Sum} {f′ : Firsts} {e : ℕ} → k ≡ sumOf D c → f′ ≡ meeting k c f → e ≡ firstFor k f′ → summandAt L D cur k e s c ≡ summing L D cur n s c
-  unfolding summing
-  summing-at {k} {f′} {e} p q r = ap (λ (i : ℕ). summandAt L D cur k i s c) (r ∙ ap (firstFor k) q) ∙ summand-at k p ∙ ap (λ (j : Sum). summand L D j cur n s c) p
+-- what the code does with a child is what the definition says
+module _ (L : Lent) (D : Doc ℕ Place) (cur : Currencies Place) (n : ℕ) (f : Firsts) (c : ℕ) (cs : List ℕ) (w : Kept (L .mode) (L .currency) D n f (c ∷ cs)) (s : Summing Place) where
+  module _ (k : Code.Sum) (h : Heard) (e : sumIs k ≡ sumOf D c) (a : (t : Site) → saying h t ≡ saidFor k f (reads (L .mode) (L .currency) D c) t) where
+    summand-at : (j : Code.Sum) → j ≡ k → summandAt (L .mode) D cur j (saying h) s c ≡ summand L D (sumIs j) cur n s c
+    unfolding summand taxTotalOf
+    summand-at CodeSum.Required g = refl
+    summand-at (CodeSum.Optional q) g = ap (λ (b : Says Place (Option ℤ)). withOptional q b s) (amount-read (L .mode) (L .currency) D n f c cs w k h e a q g (siteFor q)) ∙ sym (optional-summand q L D cur n s c)
+    summand-at CodeSum.TaxTotal g = refl
+    summand-at CodeSum.Unread g = refl
+
+    pub summing-at : summandAt (L .mode) D cur k (saying h) s c ≡ summing L D cur n s c
+    unfolding summing
+    summing-at = summand-at k refl ∙ ap (λ (j : Sum). summand L D j cur n s c) e

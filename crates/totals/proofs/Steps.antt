@@ -14,28 +14,29 @@ use Rattle.report.specs.declared.value.Amount.{Amount}
 use Rattle.settlement.specs.Document.{Doc}
 use Rattle.settlement.specs.Shapes.{Currencies}
 use Rattle.settlement.specs.Summation.{Summing, withVat, isNone, isCurrency, taxIn}
-use Rattle.settlement.specs.Values.{Says, site, entry}
+use Rattle.settlement.specs.Values.{Says, Site, site, entry}
 use Rattle.values.specs.Told.{Said, Told}
 use Rattle.values.proofs.Telling.{said-none, said-then}
+use Rattle.money.specs.Amounts.{saying}
+use Rattle.money.specs.declared.heard.Heard.{Heard}
 use Rattle.unmapped.specs.Noting.{noting, Noted}
 use Rattle.unmapped.proofs.Notings.{notings-none, notings-one}
-use Rattle.totals.specs.State.{sumsOf, amounts, setAllowance, setCharge, setVat, setPaid, setRounding, withAllowance, withCharge, withRounding, withPaid, unmapping, Summed, Did}
+use Rattle.totals.specs.State.{sumsOf, amounts, siteFor, setVat, setOptional, withOptional, unmapping, Summed, Did}
+use Rattle.totals.specs.declared.sum.Optional.{Optional}
+use Rattle.totals.specs.declared.sum.Optional.the-variants as Optional
 use Rattle.totals.specs.declared.state.Sums as Sums
 use Rattle.totals.specs.declared.state.Summing as State
 
 -- an optional amount that was read
-module _ {A : Says Place (Option ℤ)} {s : State.Summing} {v : Amount} {t : Sums.Sums} {e e′ : List ℤ} {at : ℕ} (p : Told A e (s .at) (amountOf v) e′ at) where
-  pub allowance-told : t ≡ setAllowance v (s .sums) → Summed (withAllowance A (sumsOf (s .sums))) s e (record { sums = t; at = at; count = s .count }) e′
-  allowance-told q = record { same = rw (q, ← p .same); said = p .said; count = refl; mapped = refl }
+optional-set : (q : Optional) (A : Says Place (Option ℤ)) (v : Amount) {s : State.Summing} {t : Sums.Sums} {e e′ : List ℤ} {at : ℕ} → Told A e (s .at) (amountOf v) e′ at → t ≡ setOptional q v (s .sums) → Summed (withOptional q A (sumsOf (s .sums))) s e (record { sums = t; at = at; count = s .count }) e′
+optional-set Optional.AllowanceTotal A v p q = record { same = rw (q, ← p .same); said = p .said; count = refl; mapped = refl }
+optional-set Optional.ChargeTotal A v p q = record { same = rw (q, ← p .same); said = p .said; count = refl; mapped = refl }
+optional-set Optional.Rounding A v p q = record { same = rw (q, ← p .same); said = p .said; count = refl; mapped = refl }
+optional-set Optional.Prepaid A v p q = record { same = rw (q, ← p .same); said = p .said; count = refl; mapped = refl }
 
-  pub charge-told : t ≡ setCharge v (s .sums) → Summed (withCharge A (sumsOf (s .sums))) s e (record { sums = t; at = at; count = s .count }) e′
-  charge-told q = record { same = rw (q, ← p .same); said = p .said; count = refl; mapped = refl }
-
-  pub rounding-told : t ≡ setRounding v (s .sums) → Summed (withRounding A (sumsOf (s .sums))) s e (record { sums = t; at = at; count = s .count }) e′
-  rounding-told q = record { same = rw (q, ← p .same); said = p .said; count = refl; mapped = refl }
-
-  pub paid-told : t ≡ setPaid v (s .sums) → Summed (withPaid A (sumsOf (s .sums))) s e (record { sums = t; at = at; count = s .count }) e′
-  paid-told q = record { same = rw (q, ← p .same); said = p .said; count = refl; mapped = refl }
+-- the same of what was heard, told where the amount stands
+pub optional-told : (q : Optional) (h : Heard) (v : Amount) {y : Site} {s : State.Summing} {t : Sums.Sums} {e e′ : List ℤ} {at : ℕ} → y ≡ siteFor q → Told (saying h y) e (s .at) (amountOf v) e′ at → t ≡ setOptional q v (s .sums) → Summed (withOptional q (saying h (siteFor q)) (sumsOf (s .sums))) s e (record { sums = t; at = at; count = s .count }) e′
+optional-told q h v {s = s} {e = e} {e′ = e′} {at = at} i p r = optional-set q (saying h (siteFor q)) v {s = s} (subst (λ (z : Site). Told (saying h z) e (s .at) (amountOf v) e′ at) i p) r
 
 -- a tax total's two terms
 pub taxed-summed : {s r : State.Summing} {v w : Amount} {es : List (Entry Place)} {e e′ : List ℤ} {at : ℕ} → r ≡ record { sums = setVat v w (s .sums); at = at; count = s .count } → Said es e (s .at) e′ at → Summed (withVat (amountOf v) (amountOf w) es (sumsOf (s .sums))) s e r e′
@@ -59,8 +60,8 @@ pub tax-told : {A : Says Place (Option ℤ)} {s r : State.Summing} {v w : Amount
 tax-told p q = rw (← p .same) (taxed-summed q (p .said))
 
 -- entries before those of a state
-abbrev saying : List (Entry Place) → Summing Place → Summing Place
-saying es m = record { allowance = m .allowance; charge = m .charge; vat = m .vat; vatAccounting = m .vatAccounting; rounded = m .rounded; paid = m .paid; says = es ++ m .says; strays = m .strays }
+abbrev preceded : List (Entry Place) → Summing Place → Summing Place
+preceded es m = record { allowance = m .allowance; charge = m .charge; vat = m .vat; vatAccounting = m .vatAccounting; rounded = m .rounded; paid = m .paid; says = es ++ m .says; strays = m .strays }
 
 -- a state after another
 abbrev pub over : Summing Place → Summing Place → Summing Place
@@ -68,23 +69,23 @@ over a b = record { allowance = b .allowance; charge = b .charge; vat = b .vat; 
 
 module _ (D : Doc ℕ Place) (cur : Currencies Place) where
   -- what was said of a tax total comes before what is said of its currency
-  tax-says : (v : Option ℤ) (es : List (Entry Place)) (t : Sums.Sums) (id : Place) → taxIn D cur v es (sumsOf t) id ≡ saying es (taxIn D cur v [] (sumsOf t) id)
+  tax-says : (v : Option ℤ) (es : List (Entry Place)) (t : Sums.Sums) (id : Place) → taxIn D cur v es (sumsOf t) id ≡ preceded es (taxIn D cur v [] (sumsOf t) id)
   unfolding taxIn withVat
   tax-says v es t id = go (isCurrency D (cur .bt6) id) (isCurrency D (cur .bt5) id)
     where
-      go : (p q : Bool) → cond p (withVat (cond (q && isNone (amountOf (t .vat))) v (amountOf (t .vat))) v es (sumsOf t)) (cond q (withVat v (amountOf (t .accounting)) es (sumsOf t)) (withVat (amountOf (t .vat)) (amountOf (t .accounting)) (es ++ (entry Message.TaxTotalCurrency (site Path.SummationTaxTotalAmount Term.Bt110) (some id) ∷ [])) (sumsOf t))) ≡ saying es (cond p (withVat (cond (q && isNone (amountOf (t .vat))) v (amountOf (t .vat))) v [] (sumsOf t)) (cond q (withVat v (amountOf (t .accounting)) [] (sumsOf t)) (withVat (amountOf (t .vat)) (amountOf (t .accounting)) ([] ++ (entry Message.TaxTotalCurrency (site Path.SummationTaxTotalAmount Term.Bt110) (some id) ∷ [])) (sumsOf t))))
+      go : (p q : Bool) → cond p (withVat (cond (q && isNone (amountOf (t .vat))) v (amountOf (t .vat))) v es (sumsOf t)) (cond q (withVat v (amountOf (t .accounting)) es (sumsOf t)) (withVat (amountOf (t .vat)) (amountOf (t .accounting)) (es ++ (entry Message.TaxTotalCurrency (site Path.SummationTaxTotalAmount Term.Bt110) (some id) ∷ [])) (sumsOf t))) ≡ preceded es (cond p (withVat (cond (q && isNone (amountOf (t .vat))) v (amountOf (t .vat))) v [] (sumsOf t)) (cond q (withVat v (amountOf (t .accounting)) [] (sumsOf t)) (withVat (amountOf (t .vat)) (amountOf (t .accounting)) ([] ++ (entry Message.TaxTotalCurrency (site Path.SummationTaxTotalAmount Term.Bt110) (some id) ∷ [])) (sumsOf t))))
       go true q = rw (append-nil es)
       go false true = rw (append-nil es)
       go false false = refl
 
-  saying-summed : {m : Summing Place} {s r : State.Summing} {es : List (Entry Place)} {e e′ e″ : List ℤ} {at : ℕ} → Said es e (s .at) e′ at → Summed m (record { sums = s .sums; at = at; count = s .count }) e′ r e″ → Summed (saying es m) s e r e″
-  saying-summed p q = record { same = q .same; said = said-then p (q .said); count = q .count; mapped = q .mapped }
+  preceded-summed : {m : Summing Place} {s r : State.Summing} {es : List (Entry Place)} {e e′ e″ : List ℤ} {at : ℕ} → Said es e (s .at) e′ at → Summed m (record { sums = s .sums; at = at; count = s .count }) e′ r e″ → Summed (preceded es m) s e r e″
+  preceded-summed p q = record { same = q .same; said = said-then p (q .said); count = q .count; mapped = q .mapped }
 
   -- a tax total in a currency
   pub tax-after : (id : Place) {A : Says Place (Option ℤ)} {v : Option ℤ} {s t r : State.Summing} {e e′ e″ : List ℤ} {at : ℕ} → Told A e (s .at) v e′ at → t ≡ record { sums = setVat (s .sums .vat) (s .sums .accounting) (s .sums); at = at; count = s .count } → Summed (taxIn D cur v [] (sumsOf (t .sums)) id) t e′ r e″ → Summed (taxIn D cur (A .0) (A .1) (sumsOf (s .sums)) id) s e r e″
   tax-after id {A} {v} {s} {t} {r} {e} {e′} {e″} {at} p q w =
       let z : Summed (taxIn D cur v [] (sumsOf (s .sums)) id) (record { sums = s .sums; at = at; count = s .count }) e′ r e″ = subst (λ (k : State.Summing). Summed (taxIn D cur v [] (sumsOf (k .sums)) id) k e′ r e″) q w in
-      rw (← p .same, tax-says v (A .1) (s .sums) id) (saying-summed (p .said) z)
+      rw (← p .same, tax-says v (A .1) (s .sums) id) (preceded-summed (p .said) z)
 
   -- a tax total after what was read before it
   pub tax-over : (v : Option ℤ) (es : List (Entry Place)) (m : Summing Place) (id : Place) → taxIn D cur v es m id ≡ over m (taxIn D cur v es (amounts m) id)

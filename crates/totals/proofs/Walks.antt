@@ -17,16 +17,19 @@ use Rattle.settlement.specs.Document.{Doc, maybe}
 use Rattle.settlement.specs.Shapes.{Currencies}
 use Rattle.settlement.specs.Summation.{Sum, required, allowanceTotal, chargeTotal, taxTotal, rounding, prepaid, Summing, withVat, sumOf, taxAmount, taxIn, taxTotalOf, summand, summing, summed, totals}
 use Rattle.settlement.specs.Summation as Def
-use Rattle.settlement.specs.Values.{Lent, attribute}
+use Rattle.settlement.specs.Values.{Lent, Site, attribute, amountOf}
 use Rattle.element.specs.LinkDoc.{linkDoc}
 use Rattle.values.specs.Sites.{lentOf}
+use Rattle.money.specs.Amounts.{saying}
+use Rattle.money.specs.declared.heard.Heard.{Heard}
 use Rattle.values.specs.Told.{Told}
 use Rattle.values.proofs.Telling.{said-none, said-then}
 use Rattle.unmapped.specs.Acted.{Acted}
 use Rattle.unmapped.proofs.Notings.{notings-none, notings-then}
-use Rattle.totals.specs.State.{sumsOf, unread, amounts, Did}
-use Rattle.totals.specs.Firsts.{firstFor, meeting, summandAt}
+use Rattle.totals.specs.State.{sumIs, sumsOf, unread, amounts, Did}
+use Rattle.totals.specs.Firsts.{unmet, remembering, saidFor, summandAt}
 use Rattle.totals.specs.Reading.{lineTotal, taxBasisTotal, grandTotal, duePayable, totalled, duesSaid, Ended, totalsOf}
+use Rattle.totals.specs.declared.sum.Sum as CodeSum
 use Rattle.totals.specs.declared.firsts.Firsts.{Firsts}
 use Rattle.totals.specs.declared.state.Summing as State
 use Rattle.totals.specs.declared.state.TotalsSaid as Code
@@ -60,30 +63,30 @@ module _ (L : Lent) (D : Doc ℕ Place) (cur : Currencies Place) where
 did-then : (x : List ℕ) (at k : ℕ) (e u : List ℤ) {m b : Summing Place} {s r : State.Summing} {e′ e″ u′ u″ : List ℤ} → Did x m at k e u s e′ u′ → Did x b (s .at) (s .count) e′ u′ r e″ u″ → Did x (over m b) at k e u r e″ u″
 did-then x at k e u {m} {b} p q = record { same = q .same; said = said-then (p .said) (q .said); noted = notings-then x u k (m .strays) (b .strays) (p .noted) (q .noted) }
 
--- some children were read, which made a state, and the first of each name is held; the rest is that of a chain
+-- some children were read, which made a state, and what the first of each name says is remembered; the rest is that of a chain
 pub record Walked (L : Lent) (D : Doc ℕ Place) (cur : Currencies Place) (n : ℕ) (links x : List ℕ) (at k : ℕ) (e u : List ℤ) (left c : ℕ) (s : State.Summing) (f : Firsts) (e′ u′ : List ℤ) : Type 0 where
   pub made : Summing Place
   pub rest : summed L D cur n ≡ foldl (summing L D cur n) made (chain links left c)
   pub did : Did x made at k e u s e′ u′
-  pub kept : Kept D n f (chain links left c)
+  pub kept : Kept (L .mode) (L .currency) D n f (chain links left c)
 
 module _ (L : Lent) (t x links : List ℕ) (cur : Currencies Place) (n at k : ℕ) (e u : List ℤ) where
-  pub walk-start : {s : State.Summing} {f : Firsts} {c : ℕ} → (sumsOf (s .sums) ≡ unread) × (s .at ≡ at) × (s .count ≡ k) → f ≡ record { allowance = 0; charge = 0; rounding = 0; paid = 0 } → c ≡ link links n 0 → Walked L (linkDoc t x links) cur n links x at k e u (length links / 3) c s f e u
+  pub walk-start : {s : State.Summing} {f : Firsts} {c : ℕ} → (sumsOf (s .sums) ≡ unread) × (s .at ≡ at) × (s .count ≡ k) → f ≡ unmet → c ≡ link links n 0 → Walked L (linkDoc t x links) cur n links x at k e u (length links / 3) c s f e u
   unfolding summed
   walk-start {s} {f} {c} p z q =
       record {
         made = unread;
         rest = fold-start (summing L (linkDoc t x links) cur n) links 0 n c unread q;
         did = record { same = p .0; said = rw (p .1) (said-none e at); noted = rw (p .2) (notings-none x u k) };
-        kept = kept-start (linkDoc t x links) n f (chain links (length links / 3) c) z (chain-start links 0 n c q);
+        kept = kept-start (L .mode) (L .currency) (linkDoc t x links) n f (chain links (length links / 3) c) z (chain-start links 0 n c q);
       }
 
   module _ {left c : ℕ} {s : State.Summing} {f : Firsts} {e′ u′ : List ℤ} (w : Walked L (linkDoc t x links) cur n links x at k e u left c s f e′ u′) where
     -- the child that is read is the next of the chain
-    next-kept : 0 < left → c ≢ 0 → Kept (linkDoc t x links) n f (c ∷ chain links (left - 1) (link links c 2))
-    next-kept h z = subst (Kept (linkDoc t x links) n f) (chain-turn links left c h z) (w .kept)
+    next-kept : 0 < left → c ≢ 0 → Kept (L .mode) (L .currency) (linkDoc t x links) n f (c ∷ chain links (left - 1) (link links c 2))
+    next-kept h z = subst (Kept (L .mode) (L .currency) (linkDoc t x links) n f) (chain-turn links left c h z) (w .kept)
 
-    walk-did : {r : State.Summing} {e″ u″ : List ℤ} {d : ℕ} {g : Firsts} → 0 < left → c ≢ 0 → Did x (summing L (linkDoc t x links) cur n (sumsOf (s .sums)) c) (s .at) (s .count) e′ u′ r e″ u″ → d ≡ link links c 2 → Kept (linkDoc t x links) n g (chain links (left - 1) d) → Walked L (linkDoc t x links) cur n links x at k e u (left - 1) d r g e″ u″
+    walk-did : {r : State.Summing} {e″ u″ : List ℤ} {d : ℕ} {g : Firsts} → 0 < left → c ≢ 0 → Did x (summing L (linkDoc t x links) cur n (sumsOf (s .sums)) c) (s .at) (s .count) e′ u′ r e″ u″ → d ≡ link links c 2 → Kept (L .mode) (L .currency) (linkDoc t x links) n g (chain links (left - 1) d) → Walked L (linkDoc t x links) cur n links x at k e u (left - 1) d r g e″ u″
     walk-did {r} {e″} {u″} {d} h z p q kept =
         let m = w .made in
         let p′ : Did x (summing L (linkDoc t x links) cur n (amounts m) c) (s .at) (s .count) e′ u′ r e″ u″ = subst (λ (a : Summing Place). Did x (summing L (linkDoc t x links) cur n a c) (s .at) (s .count) e′ u′ r e″ u″) (w .did .same) p in
@@ -95,14 +98,15 @@ module _ (L : Lent) (t x links : List ℕ) (cur : Currencies Place) (n at k : �
         }
 
     pub walk-turn :
-        {j : Sum} {g : Firsts} {i : ℕ} {r : State.Summing} {e″ u″ : List ℤ} {d : ℕ} → 0 < left → c ≢ 0 → j ≡ sumOf (linkDoc t x links) c → g ≡ meeting j c f → i ≡ firstFor j g →
-        Did x (summandAt L (linkDoc t x links) cur j i (sumsOf (s .sums)) c) (s .at) (s .count) e′ u′ r e″ u″ → d ≡ link links c 2 → Walked L (linkDoc t x links) cur n links x at k e u (left - 1) d r g e″ u″
-    walk-turn {j} {g} {i} {r} {e″} {u″} {d} h z p q o did v =
+        (j : CodeSum.Sum) (o : Heard) {g : Firsts} {r : State.Summing} {e″ u″ : List ℤ} {d : ℕ} → 0 < left → c ≢ 0 → sumIs j ≡ sumOf (linkDoc t x links) c →
+        ((y : Site) → saying o y ≡ saidFor j f (λ (y : Site). amountOf (L .mode) (L .currency) (linkDoc t x links) y c) y) → g ≡ remembering j o f →
+        Did x (summandAt (L .mode) (linkDoc t x links) cur j (saying o) (sumsOf (s .sums)) c) (s .at) (s .count) e′ u′ r e″ u″ → d ≡ link links c 2 → Walked L (linkDoc t x links) cur n links x at k e u (left - 1) d r g e″ u″
+    walk-turn j o {g} {r} {e″} {u″} {d} h z p a q did v =
         let D = linkDoc t x links in
         let cs = chain links (left - 1) (link links c 2) in
         let next = next-kept h z in
-        walk-did h z (subst (λ (a : Summing Place). Did x a (s .at) (s .count) e′ u′ r e″ u″) (summing-at L D cur n f c cs next z (sumsOf (s .sums)) p q o) did) v
-        (subst (λ (b : ℕ). Kept D n g (chain links (left - 1) b)) (sym v) (subst (λ (b : Firsts). Kept D n b cs) (sym q) (kept-turn D n f c cs next z j p)))
+        walk-did h z (subst (λ (a : Summing Place). Did x a (s .at) (s .count) e′ u′ r e″ u″) (summing-at L D cur n f c cs next (sumsOf (s .sums)) j o p a) did) v
+        (subst (λ (b : ℕ). Kept (L .mode) (L .currency) D n g (chain links (left - 1) b)) (sym v) (subst (λ (b : Firsts). Kept (L .mode) (L .currency) D n b cs) (sym q) (kept-turn (L .mode) (L .currency) D n f c cs next j o p a)))
 
     pub walk-zero : c ≡ 0 → Did x (summed L (linkDoc t x links) cur n) at k e u s e′ u′
     walk-zero z = subst (λ (a : Summing Place). Did x a at k e u s e′ u′) (fold-zero (summing L (linkDoc t x links) cur n) links (summed L (linkDoc t x links) cur n) (w .made) left c (w .rest) z) (w .did)

@@ -4,28 +4,43 @@ use mathlib.Core.List.{List, [], _∷_, _++_}
 use mathlib.Core.Option.{Option, none}
 use Prim.Native.Nat.{ℕ}
 use lib.IntN.{ℤ}
+use Rattle.names.specs.declared.path.Path.the-variants as Path
+use Rattle.names.specs.declared.term.Term.the-variants as Term
 use Rattle.report.specs.Rows.{Place, Unmapped}
 use Rattle.report.specs.Values.{amountOf}
 use Rattle.report.specs.declared.value.Amount.{Amount}
 use Rattle.settlement.specs.Summation.{Sum, required, allowanceTotal, chargeTotal, taxTotal, rounding, prepaid, Summing}
 use Rattle.settlement.specs.Summation as Def
-use Rattle.settlement.specs.Values.{Says}
+use Rattle.settlement.specs.Values.{Says, Site, site}
 use Rattle.values.specs.Told.{Said}
 use Rattle.unmapped.specs.Noting.{notings, Noted}
+use Rattle.totals.specs.declared.sum.Optional.{Optional}
+use Rattle.totals.specs.declared.sum.Optional.the-variants as Optional
 use Rattle.totals.specs.declared.sum.Sum as Code
 use Rattle.totals.specs.declared.sum.Sum.the-variants as CodeSum
 use Rattle.totals.specs.declared.state.Sums as CodeSums
 use Rattle.totals.specs.declared.state.Summing as CodeSumming
 
+-- which optional amount a child is
+abbrev pub kindOf : Optional → Sum
+kindOf Optional.AllowanceTotal = allowanceTotal
+kindOf Optional.ChargeTotal = chargeTotal
+kindOf Optional.Rounding = rounding
+kindOf Optional.Prepaid = prepaid
+
 -- what a child is
 abbrev pub sumIs : Code.Sum → Sum
 sumIs CodeSum.Required = required
-sumIs CodeSum.AllowanceTotal = allowanceTotal
-sumIs CodeSum.ChargeTotal = chargeTotal
+sumIs (CodeSum.Optional q) = kindOf q
 sumIs CodeSum.TaxTotal = taxTotal
-sumIs CodeSum.Rounding = rounding
-sumIs CodeSum.Prepaid = prepaid
 sumIs CodeSum.Unread = Def.unread
+
+-- where an optional amount stands
+abbrev pub siteFor : Optional → Site
+siteFor Optional.AllowanceTotal = site Path.SummationAllowanceTotalAmount Term.Bt107
+siteFor Optional.ChargeTotal = site Path.SummationChargeTotalAmount Term.Bt108
+siteFor Optional.Rounding = site Path.SummationRoundingAmount Term.Bt114
+siteFor Optional.Prepaid = site Path.SummationTotalPrepaidAmount Term.Bt113
 
 -- the amounts so far, of which nothing was said
 abbrev pub sumsOf : CodeSums.Sums → Summing Place
@@ -57,6 +72,13 @@ setPaid paid s = record { allowance = s .allowance; charge = s .charge; vat = s 
 abbrev pub setRounding : Amount → CodeSums.Sums → CodeSums.Sums
 setRounding a s = record { allowance = s .allowance; charge = s .charge; vat = s .vat; accounting = s .accounting; paid = s .paid; rounding = a }
 
+-- the amounts with an optional one set
+abbrev pub setOptional : Optional → Amount → CodeSums.Sums → CodeSums.Sums
+setOptional Optional.AllowanceTotal a s = setAllowance a s
+setOptional Optional.ChargeTotal a s = setCharge a s
+setOptional Optional.Rounding a s = setRounding a s
+setOptional Optional.Prepaid a s = setPaid a s
+
 -- nothing was read
 abbrev pub unread : Summing Place
 unread = record { allowance = none; charge = none; vat = none; vatAccounting = none; rounded = none; paid = none; says = []; strays = [] }
@@ -66,17 +88,23 @@ abbrev pub amounts : Summing Place → Summing Place
 amounts m = record { allowance = m .allowance; charge = m .charge; vat = m .vat; vatAccounting = m .vatAccounting; rounded = m .rounded; paid = m .paid; says = []; strays = [] }
 
 -- an optional amount that was read, with what was said of it
-abbrev pub withAllowance : Says Place (Option ℤ) → Summing Place → Summing Place
+abbrev withAllowance : Says Place (Option ℤ) → Summing Place → Summing Place
 withAllowance a s = record { allowance = a .0; charge = s .charge; vat = s .vat; vatAccounting = s .vatAccounting; rounded = s .rounded; paid = s .paid; says = s .says ++ a .1; strays = s .strays }
 
-abbrev pub withCharge : Says Place (Option ℤ) → Summing Place → Summing Place
+abbrev withCharge : Says Place (Option ℤ) → Summing Place → Summing Place
 withCharge a s = record { allowance = s .allowance; charge = a .0; vat = s .vat; vatAccounting = s .vatAccounting; rounded = s .rounded; paid = s .paid; says = s .says ++ a .1; strays = s .strays }
 
-abbrev pub withRounding : Says Place (Option ℤ) → Summing Place → Summing Place
+abbrev withRounding : Says Place (Option ℤ) → Summing Place → Summing Place
 withRounding a s = record { allowance = s .allowance; charge = s .charge; vat = s .vat; vatAccounting = s .vatAccounting; rounded = a .0; paid = s .paid; says = s .says ++ a .1; strays = s .strays }
 
-abbrev pub withPaid : Says Place (Option ℤ) → Summing Place → Summing Place
+abbrev withPaid : Says Place (Option ℤ) → Summing Place → Summing Place
 withPaid a s = record { allowance = s .allowance; charge = s .charge; vat = s .vat; vatAccounting = s .vatAccounting; rounded = s .rounded; paid = a .0; says = s .says ++ a .1; strays = s .strays }
+
+abbrev pub withOptional : Optional → Says Place (Option ℤ) → Summing Place → Summing Place
+withOptional Optional.AllowanceTotal a s = withAllowance a s
+withOptional Optional.ChargeTotal a s = withCharge a s
+withOptional Optional.Rounding a s = withRounding a s
+withOptional Optional.Prepaid a s = withPaid a s
 
 -- an element that is unmapped
 abbrev pub unmapping : Unmapped Place → Summing Place → Summing Place

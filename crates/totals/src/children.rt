@@ -6,22 +6,21 @@ ghost use Rattle.settlement.specs.TableDoc.{nameAt};
 ghost use Rattle.unmapped.specs.Noting.{noting, Noted};
 ghost use Rattle.element.specs.LinkDoc.{linkDoc};
 ghost use Rattle.values.specs.Sites.{lentOf};
-ghost use Rattle.totals.specs.State.{sumsOf, sumIs, unread, Did};
+ghost use Rattle.money.specs.Amounts.{saying};
+ghost use Rattle.totals.specs.State.{sumsOf, unread, Did};
 ghost use Rattle.totals.specs.Firsts.{summandAt};
 ghost use Rattle.totals.specs.Reading.{currencies};
-use crate::firsts::first_for;
-use crate::firsts::met;
+use crate::firsts::hear_first;
 use crate::firsts::none_met;
-use crate::optional::allowance_total;
-use crate::optional::charge_total;
-use crate::optional::rounding_amount;
-use crate::optional::total_prepaid;
+use crate::firsts::remember;
+use crate::optional::optional_amount;
 use crate::state::Frame;
 use crate::state::Summing;
 use crate::state::Sums;
 use crate::sum::Sum;
 use crate::sum::sum_of;
 use crate::tax::tax_total;
+use money::Heard;
 use names::Parent;
 use report::Amount;
 use report::Unmapped;
@@ -57,40 +56,34 @@ fn noted(table: &[u32], text: &[u8], unmapped: &mut [i64], s: Summing, c: usize)
     }
 }
 
-// The state after child c of a summation, where element e is the first child of its name.
+// The state after child c of a summation, where `heard` is what the first child of its name says.
 fn summand(
     table: &[u32],
     text: &[u8],
     links: &[u16],
-    currency: &[u8],
     entries: &mut [i64],
     unmapped: &mut [i64],
     frame: Frame,
     s: Summing,
     sum: Sum,
-    e: usize,
+    heard: Heard,
     c: usize,
 ) -> Summing
-    ensures { λ r. ⌜ Did (now (text .entry)) (summandAt (lentOf (frame .mode) 0 (now (currency .entry))) (linkDoc (now (table .entry)) (now (text .entry)) (now (links .entry))) (currencies (frame .bt5) (frame .bt6)) (sumIs sum) e (sumsOf (s .sums)) c) (s .at) (s .count) (now (entries .entry)) (now (unmapped .entry)) r (now (entries .exit)) (now (unmapped .exit)) ⌝ }
+    ensures { λ r. ⌜ Did (now (text .entry)) (summandAt (frame .mode) (linkDoc (now (table .entry)) (now (text .entry)) (now (links .entry))) (currencies (frame .bt5) (frame .bt6)) sum (saying heard) (sumsOf (s .sums)) c) (s .at) (s .count) (now (entries .entry)) (now (unmapped .entry)) r (now (entries .exit)) (now (unmapped .exit)) ⌝ }
 {
     let mode = frame.mode;
     let bt5 = frame.bt5;
     let bt6 = frame.bt6;
     match sum {
         Sum::Required => s,
-        Sum::AllowanceTotal => {
-            allowance_total(table, text, links, mode, currency, entries, s, e)
-        }
-        Sum::ChargeTotal => charge_total(table, text, links, mode, currency, entries, s, e),
+        Sum::Optional(which) => optional_amount(entries, s, which, heard),
         Sum::TaxTotal => tax_total(table, text, links, mode, entries, bt5, bt6, s, c),
-        Sum::Rounding => rounding_amount(table, text, links, mode, currency, entries, s, e),
-        Sum::Prepaid => total_prepaid(table, text, links, mode, currency, entries, s, e),
         Sum::Unread => noted(table, text, unmapped, s, c),
     }
 }
 
-// The state after all children of a summation. The first child of each optional amount's name is
-// remembered, so that no child looks for it.
+// The state after all children of a summation. What the first child of each optional amount's name
+// says is remembered, so that it is read once, however often it is said.
 pub(crate) fn summed(
     table: &[u32],
     text: &[u8],
@@ -113,19 +106,18 @@ pub(crate) fn summed(
             return s;
         }
         let sum = sum_of(table, text, links, c);
-        firsts = met(firsts, sum, c);
-        let e = first_for(firsts, sum);
+        let heard = hear_first(table, text, links, frame.mode, currency, firsts, sum, c);
+        firsts = remember(firsts, sum, heard);
         s = summand(
             table,
             text,
             links,
-            currency,
             entries,
             unmapped,
             frame,
             s,
             sum,
-            e,
+            heard,
             c,
         );
         c = links::next_of(links, c);

@@ -1,90 +1,128 @@
-// The first child of each optional amount's name, as the walk over the children remembers it.
+// What the first child of each optional amount's name says, as the walk over the children remembers it.
 ghost use mathlib.Core.Path.{_≡_};
-ghost use Rattle.totals.specs.State.{sumIs};
-ghost use Rattle.totals.specs.Firsts.{orThis, firstFor, meeting};
+ghost use Rattle.settlement.specs.Values as reading;
+ghost use Rattle.element.specs.LinkDoc.{linkDoc};
+ghost use Rattle.money.specs.Amounts.{saying};
+ghost use Rattle.totals.specs.Firsts.{unmet, firstOf, setFirst, remembering, saidFor};
+use crate::sum::Optional;
 use crate::sum::Sum;
+use money::Heard;
 
-// The first AllowanceTotalAmount, ChargeTotalAmount, RoundingAmount and TotalPrepaidAmount so far, 0
-// where none was met: record 0 is nobody's child.
+// What the first child of a name says, once it was met.
+pub(crate) enum First {
+    Unmet,
+    Met(Heard),
+}
+
+// That of the first AllowanceTotalAmount, ChargeTotalAmount, RoundingAmount and TotalPrepaidAmount.
 pub(crate) struct Firsts {
-    pub(crate) allowance: usize,
-    pub(crate) charge: usize,
-    pub(crate) rounding: usize,
-    pub(crate) paid: usize,
+    pub(crate) allowance: First,
+    pub(crate) charge: First,
+    pub(crate) rounding: First,
+    pub(crate) paid: First,
 }
 
 // Before the children.
 pub(crate) fn none_met() -> Firsts
-    ensures { λ r. ⌜ r ≡ record { allowance = 0; charge = 0; rounding = 0; paid = 0 } ⌝ }
+    ensures { λ r. ⌜ r ≡ unmet ⌝ }
 {
     Firsts {
-        allowance: 0,
-        charge: 0,
-        rounding: 0,
-        paid: 0,
+        allowance: First::Unmet,
+        charge: First::Unmet,
+        rounding: First::Unmet,
+        paid: First::Unmet,
     }
 }
 
-// The first of a name after a child c of it: that which is held, or else c.
-fn earlier(held: usize, c: usize) -> usize
-    ensures { λ r. ⌜ r ≡ orThis held c ⌝ }
-{
-    if held == 0 {
-        return c;
-    }
-    held
-}
-
-// The firsts after a child c.
-pub(crate) fn met(f: Firsts, sum: Sum, c: usize) -> Firsts
-    ensures { λ r. ⌜ r ≡ meeting (sumIs sum) c f ⌝ }
+// That of an optional amount's name.
+fn first_of(f: Firsts, which: Optional) -> First
+    ensures { λ r. ⌜ r ≡ firstOf which f ⌝ }
 {
     let allowance = f.allowance;
     let charge = f.charge;
     let rounding = f.rounding;
     let paid = f.paid;
-    match sum {
-        Sum::Required => f,
-        Sum::AllowanceTotal => Firsts {
-            allowance: earlier(allowance, c),
-            charge,
-            rounding,
-            paid,
-        },
-        Sum::ChargeTotal => Firsts {
-            allowance,
-            charge: earlier(charge, c),
-            rounding,
-            paid,
-        },
-        Sum::TaxTotal => f,
-        Sum::Rounding => Firsts {
-            allowance,
-            charge,
-            rounding: earlier(rounding, c),
-            paid,
-        },
-        Sum::Prepaid => Firsts {
-            allowance,
-            charge,
-            rounding,
-            paid: earlier(paid, c),
-        },
-        Sum::Unread => f,
+    match which {
+        Optional::AllowanceTotal => allowance,
+        Optional::ChargeTotal => charge,
+        Optional::Rounding => rounding,
+        Optional::Prepaid => paid,
     }
 }
 
-// The first child of the name of a child of this kind, 0 where it is no optional amount.
-pub(crate) fn first_for(f: Firsts, sum: Sum) -> usize
-    ensures { λ r. ⌜ r ≡ firstFor (sumIs sum) f ⌝ }
+// What is said of child c: what the first child of its name said, and what c says where it is the
+// first; nothing where it is no optional amount.
+pub(crate) fn hear_first(
+    table: &[u32],
+    text: &[u8],
+    links: &[u16],
+    mode: u32,
+    currency: &[u8],
+    f: Firsts,
+    sum: Sum,
+    c: usize,
+) -> Heard
+    ensures { λ r. ⌜ ((s : reading.Site) → saying r s ≡ saidFor sum f (λ t. reading.amountOf mode (now (currency .entry)) (linkDoc (now (table .entry)) (now (text .entry)) (now (links .entry))) t c) s) ⌝ }
 {
     match sum {
-        Sum::Required => 0,
-        Sum::AllowanceTotal => f.allowance,
-        Sum::ChargeTotal => f.charge,
-        Sum::TaxTotal => 0,
-        Sum::Rounding => f.rounding,
-        Sum::Prepaid => f.paid,
-        Sum::Unread => 0,
+        Sum::Required => Heard::Nothing,
+        Sum::Optional(which) => {
+            let first = first_of(f, which);
+            match first {
+                First::Unmet => money::hear(table, text, links, mode, currency, c),
+                First::Met(heard) => heard,
+            }
+        }
+        Sum::TaxTotal => Heard::Nothing,
+        Sum::Unread => Heard::Nothing,
+    }
+}
+
+// The firsts with one of them met.
+fn with_first(f: Firsts, which: Optional, heard: Heard) -> Firsts
+    ensures { λ r. ⌜ r ≡ setFirst which heard f ⌝ }
+{
+    let allowance = f.allowance;
+    let charge = f.charge;
+    let rounding = f.rounding;
+    let paid = f.paid;
+    let first = First::Met(heard);
+    match which {
+        Optional::AllowanceTotal => Firsts {
+            allowance: first,
+            charge,
+            rounding,
+            paid,
+        },
+        Optional::ChargeTotal => Firsts {
+            allowance,
+            charge: first,
+            rounding,
+            paid,
+        },
+        Optional::Rounding => Firsts {
+            allowance,
+            charge,
+            rounding: first,
+            paid,
+        },
+        Optional::Prepaid => Firsts {
+            allowance,
+            charge,
+            rounding,
+            paid: first,
+        },
+    }
+}
+
+// The firsts after a child of which `heard` was said.
+pub(crate) fn remember(f: Firsts, sum: Sum, heard: Heard) -> Firsts
+    ensures { λ r. ⌜ r ≡ remembering sum heard f ⌝ }
+{
+    match sum {
+        Sum::Required => f,
+        Sum::Optional(which) => with_first(f, which, heard),
+        Sum::TaxTotal => f,
+        Sum::Unread => f,
     }
 }

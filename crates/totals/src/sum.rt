@@ -4,14 +4,19 @@ ghost use Rattle.settlement.specs.Summation.{sumOf};
 ghost use Rattle.element.specs.LinkDoc.{linkDoc};
 ghost use Rattle.totals.specs.State.{sumIs};
 
+// An optional amount in the currency of the invoice: BT-107, BT-108, BT-114 or BT-113.
+pub(crate) enum Optional {
+    AllowanceTotal,
+    ChargeTotal,
+    Rounding,
+    Prepaid,
+}
+
 // What a child is: read once after all others, an optional amount, a tax total, or unmapped.
 pub(crate) enum Sum {
     Required,
-    AllowanceTotal,
-    ChargeTotal,
+    Optional(Optional),
     TaxTotal,
-    Rounding,
-    Prepaid,
     Unread,
 }
 
@@ -33,19 +38,19 @@ pub(crate) fn sum_of(table: &[u32], text: &[u8], links: &[u16], c: usize) -> Sum
         return Sum::Required;
     }
     if text::same(name, b"ChargeTotalAmount") {
-        return Sum::ChargeTotal;
+        return Sum::Optional(Optional::ChargeTotal);
     }
     if text::same(name, b"AllowanceTotalAmount") {
-        return Sum::AllowanceTotal;
+        return Sum::Optional(Optional::AllowanceTotal);
     }
     if text::same(name, b"TaxTotalAmount") {
         return Sum::TaxTotal;
     }
     if text::same(name, b"RoundingAmount") {
-        return Sum::Rounding;
+        return Sum::Optional(Optional::Rounding);
     }
     if text::same(name, b"TotalPrepaidAmount") {
-        return Sum::Prepaid;
+        return Sum::Optional(Optional::Prepaid);
     }
     Sum::Unread
 }

@@ -1,16 +1,23 @@
 -- What the code's values mean.
-use mathlib.Core.Bool.{Bool, false, cond}
-use mathlib.Core.List.{List}
-use mathlib.Core.Option.{Option}
+use mathlib.Core.Bool.{Bool, true, false, cond}
+use mathlib.Core.List.{List, [], _∷_}
+use mathlib.Core.Option.{Option, none, some}
 use Prim.Native.Nat.{ℕ}
 use lib.IntN.{ℤ}
+use Rattle.text.specs.Answer.{Answer}
+use Rattle.text.specs.Utf8.{bytes}
+use Rattle.amount.specs.Percentage.{percentageOf}
+use Rattle.date.specs.Date.{dateOf}
+use Rattle.codes.specs.DateFormat.{dateFormat}
+use Rattle.names.specs.declared.message.Message.{Message}
+use Rattle.names.specs.declared.message.Message.the-variants as Message
+use Rattle.names.specs.declared.path.Path.{Path}
+use Rattle.names.specs.declared.term.Term.the-variants as Term
 use Rattle.report.specs.Rows.{Place}
 use Rattle.report.specs.Values.{indexOf}
-use Rattle.names.specs.declared.path.Path.{Path}
-use Rattle.settlement.specs.Values.{Lent, Site, Says, percentMessage, dateMessage, textBytes, answered, dateFrom, otherSpelling}
-use Rattle.settlement.specs.Document.{Doc}
-use Rattle.amount.specs.Percentage.{parsedPercentage}
-use Rattle.date.specs.Date.{parsedDate}
+use Rattle.settlement.specs.Document.{Doc, maybe}
+use Rattle.settlement.specs.TableDoc.{shows}
+use Rattle.settlement.specs.Values.{Lent, Site, Says, site, entry, percentMessage, dateMessage, dateFrom, otherSpelling}
 use Rattle.values.specs.declared.saying.Site as Code
 
 -- where an entry is made
@@ -25,13 +32,24 @@ lentWith mode rules currency extension = record { mode = mode; rules = rules; cu
 abbrev pub lentOf : ℕ → ℕ → List ℕ → Lent
 lentOf mode rules currency = lentWith mode rules currency false
 
--- the percentage that an element's text spells
-unfoldable pub parsedPercent : ℕ → Doc ℕ Place → Site → ℕ → Says Place (Option (ℤ × ℕ))
-parsedPercent mode D s e = answered mode D percentMessage s e (parsedPercentage mode (textBytes D e))
+-- what the parse of a trimmed text at a place answered: the value, or its message with that text
+unfoldable pub answeredAt : {A : Type 0} → (ℕ → Message) → Site → Place → Answer A → Says Place (Option A)
+answeredAt m s p a = maybe (none, entry (m (a .message)) s (some p) ∷ []) (λ v. (some v, [])) (a .value)
+
+-- the percentage that a trimmed text spells
+unfoldable pub percentAt : List ℕ → Site → Place → Says Place (Option (ℤ × ℕ))
+percentAt x s p = answeredAt percentMessage s p (percentageOf (shows x p))
 
 -- the date
-unfoldable pub parsedDay : ℕ → Doc ℕ Place → Site → ℕ → Says Place (Option ℕ)
-parsedDay mode D s e = answered mode D dateMessage s e (parsedDate mode (textBytes D e))
+unfoldable pub dayAt : List ℕ → Site → Place → Says Place (Option ℕ)
+dayAt x s p = answeredAt dateMessage s p (dateOf (shows x p))
+
+-- the date of an element whose trimmed text stands at a place; its format comes first
+unfoldable pub dateAt : Doc ℕ Place → List ℕ → Path → ℕ → Place → Says Place (Option ℕ)
+dateAt D x p e own =
+    cond (maybe true (λ f. dateFormat (D .bytes f)) (D .attr e (bytes "format")))
+    (dayAt x (site p Term.None) own)
+    (none, entry Message.DateFormat (site p Term.None) (some own) ∷ [])
 
 -- a date element of the other spelling, or not
 unfoldable pub spelling : ℕ → Doc ℕ Place → Bool → Path → ℕ → Says Place (Option ℕ)

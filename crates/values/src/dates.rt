@@ -3,21 +3,22 @@ ghost use mathlib.Core.Path.{_≡_};
 ghost use mathlib.Core.Bool.{true};
 ghost use Rattle.codes.specs.DateFormat.{dateFormat};
 ghost use Rattle.date.specs.Answers.{dateAnswer};
-ghost use Rattle.report.specs.Values.{textOf, dayOf};
+ghost use Rattle.report.specs.Values.{placeOf, textOf, dayOf};
 ghost use Rattle.settlement.specs.Document.{maybe};
 ghost use Rattle.settlement.specs.TableDoc.{shows};
 ghost use Rattle.settlement.specs.Values as reading;
 ghost use Rattle.element.specs.LinkDoc.{linkDoc};
-ghost use Rattle.values.specs.Sites.{siteOf, parsedDay, spelling};
+ghost use Rattle.values.specs.Sites.{siteOf, dayAt, dateAt, spelling};
 ghost use Rattle.values.specs.Told.{Told};
 use crate::saying::Site;
-use crate::saying::say_of;
+use crate::saying::say;
 use date::ParsedDate;
 use names::Message;
 use names::Path;
 use names::Term;
 use report::Day;
 use report::Index;
+use report::Place;
 use report::Text;
 
 // A date, and where the next entry goes.
@@ -58,45 +59,36 @@ fn message_of(answer: ParsedDate) -> Message
     }
 }
 
-// The date that the text of element e spells.
-fn parsed(
-    table: &[u32],
-    text: &[u8],
-    links: &[u16],
-    mode: u32,
-    entries: &mut [i64],
-    at: usize,
-    site: Site,
-    e: usize,
-) -> DateSaid
-    ensures { λ r. ⌜ Told (parsedDay mode (linkDoc (now (table .entry)) (now (text .entry)) (now (links .entry))) (siteOf site) e) (now (entries .entry)) at (dayOf (r .day)) (now (entries .exit)) (r .at) ⌝ }
+// The date that a trimmed text spells.
+fn parsed(text: &[u8], entries: &mut [i64], at: usize, site: Site, own: Place) -> DateSaid
+    ensures { λ r. ⌜ Told (dayAt (now (text .entry)) (siteOf site) (placeOf own)) (now (entries .entry)) at (dayOf (r .day)) (now (entries .exit)) (r .at) ⌝ }
 {
-    let answer = date::parse(element::text_bytes(table, text, links, e), mode);
+    let answer = date::parse_trimmed(element::shown(text, own));
     let day = value_of(answer);
     match day {
         Day::Absent => {
             let message = message_of(answer);
             DateSaid {
                 day,
-                at: say_of(table, text, links, mode, entries, at, message, site, e),
+                at: say(entries, at, message, site, Text::At(own)),
             }
         }
         Day::On(_) => DateSaid { day, at },
     }
 }
 
-// The date of element e; its format comes first.
+// The date of element e, whose trimmed text is lent; its format comes first.
 fn date_from(
     table: &[u32],
     text: &[u8],
     links: &[u16],
-    mode: u32,
     entries: &mut [i64],
     at: usize,
     path: Path,
     e: usize,
+    own: Place,
 ) -> DateSaid
-    ensures { λ r. ⌜ Told (reading.dateFrom mode (linkDoc (now (table .entry)) (now (text .entry)) (now (links .entry))) path e) (now (entries .entry)) at (dayOf (r .day)) (now (entries .exit)) (r .at) ⌝ }
+    ensures { λ r. ⌜ Told (dateAt (linkDoc (now (table .entry)) (now (text .entry)) (now (links .entry))) (now (text .entry)) path e (placeOf own)) (now (entries .entry)) at (dayOf (r .day)) (now (entries .exit)) (r .at) ⌝ }
 {
     let site = Site {
         path,
@@ -105,16 +97,15 @@ fn date_from(
     };
     let format = element::attribute_text(table, text, links, e, b"format");
     if is_right_format(text, format) {
-        return parsed(table, text, links, mode, entries, at, site, e);
+        return parsed(text, entries, at, site, own);
     }
-    let message = Message::DateFormat;
     DateSaid {
         day: Day::Absent,
-        at: say_of(table, text, links, mode, entries, at, message, site, e),
+        at: say(entries, at, Message::DateFormat, site, Text::At(own)),
     }
 }
 
-// The same, where it is or is not of the other spelling, which is said first.
+// The date of element e, where it is or is not of the other spelling, which is said first.
 fn spelled(
     table: &[u32],
     text: &[u8],
@@ -128,17 +119,17 @@ fn spelled(
 ) -> DateSaid
     ensures { λ r. ⌜ Told (spelling mode (linkDoc (now (table .entry)) (now (text .entry)) (now (links .entry))) other path e) (now (entries .entry)) at (dayOf (r .day)) (now (entries .exit)) (r .at) ⌝ }
 {
+    let own = element::own_text(table, text, links, mode, e);
     if other {
         let site = Site {
             path,
             term: Term::None,
             index: Index::Absent,
         };
-        let message = Message::OtherDateElement;
-        let next = say_of(table, text, links, mode, entries, at, message, site, e);
-        return date_from(table, text, links, mode, entries, next, path, e);
+        let next = say(entries, at, Message::OtherDateElement, site, Text::At(own));
+        return date_from(table, text, links, entries, next, path, e, own);
     }
-    date_from(table, text, links, mode, entries, at, path, e)
+    date_from(table, text, links, entries, at, path, e, own)
 }
 
 // The date in element w: DateTimeString, else DateString. A tax point is a DateString, every other
@@ -167,7 +158,7 @@ fn date_in(
             };
         }
         if point {
-            return date_from(table, text, links, mode, entries, at, day, d);
+            return spelled(table, text, links, mode, entries, at, false, day, d);
         }
         return spelled(table, text, links, mode, entries, at, true, day, d);
     }

@@ -22,4 +22,3 @@ pub use required_codes::say_non_vat;
 pub use saying::Site;
 pub use saying::missing;
 pub use saying::say;
-pub use saying::say_of;

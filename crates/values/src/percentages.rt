@@ -1,17 +1,18 @@
 // Percentages.
 ghost use mathlib.Core.Path.{_≡_};
 ghost use Rattle.amount.specs.Answers.{percentageAnswer};
-ghost use Rattle.report.specs.Values.{percentOf};
+ghost use Rattle.report.specs.Values.{placeOf, percentOf};
 ghost use Rattle.settlement.specs.Values as reading;
 ghost use Rattle.element.specs.LinkDoc.{linkDoc};
-ghost use Rattle.values.specs.Sites.{siteOf, parsedPercent};
+ghost use Rattle.values.specs.Sites.{siteOf, percentAt};
 ghost use Rattle.values.specs.Told.{Told};
 use crate::saying::Site;
-use crate::saying::say_of;
+use crate::saying::say;
 use amount::ParsedPercentage;
 use amount::Percentage;
 use names::Message;
 use report::Percent;
+use report::Place;
 use report::Text;
 
 // A percentage, and where the next entry goes.
@@ -42,27 +43,18 @@ fn message_of(answer: ParsedPercentage) -> Message
     }
 }
 
-// The percentage that the text of element e spells.
-fn parsed(
-    table: &[u32],
-    text: &[u8],
-    links: &[u16],
-    mode: u32,
-    entries: &mut [i64],
-    at: usize,
-    site: Site,
-    e: usize,
-) -> PercentSaid
-    ensures { λ r. ⌜ Told (parsedPercent mode (linkDoc (now (table .entry)) (now (text .entry)) (now (links .entry))) (siteOf site) e) (now (entries .entry)) at (percentOf (r .percent)) (now (entries .exit)) (r .at) ⌝ }
+// The percentage that a trimmed text spells.
+fn parsed(text: &[u8], entries: &mut [i64], at: usize, site: Site, own: Place) -> PercentSaid
+    ensures { λ r. ⌜ Told (percentAt (now (text .entry)) (siteOf site) (placeOf own)) (now (entries .entry)) at (percentOf (r .percent)) (now (entries .exit)) (r .at) ⌝ }
 {
-    let answer = Percentage::parse(element::text_bytes(table, text, links, e), mode);
+    let answer = Percentage::parse_trimmed(element::shown(text, own));
     let percent = value_of(answer);
     match percent {
         Percent::Absent => {
             let message = message_of(answer);
             PercentSaid {
                 percent,
-                at: say_of(table, text, links, mode, entries, at, message, site, e),
+                at: say(entries, at, message, site, Text::At(own)),
             }
         }
         Percent::Of(_) => PercentSaid { percent, at },
@@ -88,7 +80,7 @@ fn percent_of(
             percent: Percent::Absent,
             at,
         },
-        Text::At(_) => parsed(table, text, links, mode, entries, at, site, e),
+        Text::At(own) => parsed(text, entries, at, site, own),
     }
 }
 

@@ -1,9 +1,7 @@
 // Saying an entry: where it is made, and what it is about.
 ghost use mathlib.Core.List.{_∷_, []};
-ghost use mathlib.Core.Option.{some};
 ghost use Rattle.report.specs.Values.{textOf};
 ghost use Rattle.settlement.specs.Values as reading;
-ghost use Rattle.element.specs.LinkDoc.{linkDoc};
 ghost use Rattle.values.specs.Sites.{siteOf};
 ghost use Rattle.values.specs.Told.{Said};
 use codes::Rule;
@@ -49,22 +47,4 @@ pub fn missing(entries: &mut [i64], at: usize, rules: u32, rule: Rule, site: Sit
         return say(entries, at, Message::Missing, site, Text::Absent);
     }
     at
-}
-
-// Says a message about the text of element e, as the mode trims it.
-pub fn say_of(
-    table: &[u32],
-    text: &[u8],
-    links: &[u16],
-    mode: u32,
-    entries: &mut [i64],
-    at: usize,
-    message: Message,
-    site: Site,
-    e: usize,
-) -> usize
-    ensures { λ r. ⌜ Said (reading.entry message (siteOf site) (some (reading.ownText (linkDoc (now (table .entry)) (now (text .entry)) (now (links .entry))) mode e)) ∷ []) (now (entries .entry)) at (now (entries .exit)) r ⌝ }
-{
-    let own = element::own_text(table, text, links, mode, e);
-    say(entries, at, message, site, Text::At(own))
 }

@@ -3,6 +3,7 @@ use Rattle.element.proofs.Documents.{found-is}
 use Rattle.settlement.specs.Values as reading
 use Rattle.values.proofs.Telling.{told-or-zero}
 use Rattle.money.specs.Amounts.{missingAmount}
+use Rattle.money.proofs.Spelled.{amount-spelled}
 use Rattle.money.proofs.amounts.required_amount.Statement.{statement}
 use Rattle.money.proofs.amounts.required_amount.Tie as tie
 
@@ -16,8 +17,8 @@ returns-2 c = rw (← c .before .before .before .before .before .before .before 
 
 returns-3 : tie.Need-returns-3
 unfolding reading.requiredAmount reading.kidText reading.amount reading.amountOf
-returns-3 c = rw (← c .before .before .before .before .before .before .before .before .kid .ensures, found-is (c .before .before .before .before .before .before .before .if1 .left), ← c .before .before .before .before .before .before .text-in .ensures, c .before .before .before .before .enum-told2 .given .1) (told-or-zero (c .before .before .amount-from .ensures) (c .or-zero .ensures))
+returns-3 c = rw (← c .before .before .before .before .before .before .before .before .before .before .kid .ensures, found-is (c .before .before .before .before .before .before .before .before .before .if1 .left), ← c .before .before .before .before .before .before .before .before .text-in .ensures, c .before .before .before .before .before .before .content .given .1, ← amount-spelled _ _ _ _ _ _ _ (rw (c .before .before .before .before .before .before .content .given .1) at (c .before .before .before .before .before .before .before .before .text-in .ensures)), ← c .before .before .before .before .hear-text .ensures _) (told-or-zero (c .before .before .tell .ensures) (c .or-zero .ensures))
 
 pub required-amount-spec : {M : Type 1} → statement M
 required-amount-spec =
-    tie.close (tie.spec (λ c κs. search needs) (λ c κs. search needs) (λ c. search needs) returns (λ c κs. search needs) (λ c. search needs) (λ c κs. search needs) (λ c. search needs) (λ c κs. search needs) (λ c κs. search needs) (λ c. search needs) returns-2 (λ c. search needs) returns-3)
+    tie.close (tie.spec (λ c κs. search needs) (λ c κs. search needs) (λ c. search needs) returns (λ c κs. search needs) (λ c. search needs) (λ c κs. search needs) (λ c. search needs) (λ c κs. search needs) (λ c κs. search needs) (λ c κs. search needs) (λ c. search needs) returns-2 (λ c. search needs) returns-3)

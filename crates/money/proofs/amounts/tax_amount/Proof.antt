@@ -1,12 +1,11 @@
 use borrow.Author.Needs.{needs}
-use Rattle.settlement.specs.Summation.{taxAmount}
+use Rattle.money.proofs.Spelled.{tax-spelled}
 use Rattle.money.proofs.amounts.tax_amount.Statement.{statement}
 use Rattle.money.proofs.amounts.tax_amount.Tie as tie
 
 returns : tie.Need-returns
-unfolding taxAmount
-returns c = rw (← c .before .before .before .before .text-bytes .ensures, ← c .before .before .before .parse .ensures) (c .before .answered .ensures)
+returns c = rw (← tax-spelled _ _ _ _ _ (c .before .before .before .before .before .before .own-text .ensures), ← c .before .before .before .before .before .shown .ensures, ← c .before .before .before .before .parse-trimmed .ensures, ← c .before .before .before .answered .ensures _) (c .before .tell .ensures)
 
 pub tax-amount-spec : {M : Type 1} → statement M
 tax-amount-spec =
-    tie.close (tie.spec (λ c κs. search needs) (λ c κs. search needs) (λ c κs. search needs) (λ c. search needs) returns)
+    tie.close (tie.spec (λ c κs. search needs) (λ c κs. search needs) (λ c κs. search needs) (λ c κs. search needs) (λ c κs. search needs) (λ c. search needs) returns)

@@ -1,5 +1,4 @@
 use borrow.Author.Needs.{needs}
-use Rattle.settlement.specs.Summation.{taxTotalOf}
 use Rattle.totals.proofs.Steps.{did-none, did-summed, did-noted}
 use Rattle.totals.proofs.children.summand.Statement.{statement}
 use Rattle.totals.proofs.children.summand.Tie as tie
@@ -8,24 +7,14 @@ returns : tie.Need-returns
 returns c = rw (c .enum-told .given .1) (did-none _ _ _ _)
 
 returns-2 : tie.Need-returns-2
-returns-2 c = rw (c .before .before .before .enum-told2 .given .1) (did-summed _ _ (c .before .allowance-total .ensures))
+returns-2 c = rw (c .before .before .before .before .sum .given .1) (did-summed _ _ (c .before .optional-amount .ensures))
 
 returns-3 : tie.Need-returns-3
-returns-3 c = rw (c .before .before .before .enum-told3 .given .1) (did-summed _ _ (c .before .charge-total .ensures))
+returns-3 c = rw (c .before .before .before .enum-told2 .given .1) (did-summed _ _ (c .before .tax-total .ensures))
 
 returns-4 : tie.Need-returns-4
-unfolding taxTotalOf
-returns-4 c = rw (c .before .before .before .enum-told4 .given .1) (did-summed _ _ (c .before .tax-total .ensures))
-
-returns-5 : tie.Need-returns-5
-returns-5 c = rw (c .before .before .before .enum-told5 .given .1) (did-summed _ _ (c .before .rounding-amount .ensures))
-
-returns-6 : tie.Need-returns-6
-returns-6 c = rw (c .before .before .before .enum-told6 .given .1) (did-summed _ _ (c .before .total-prepaid .ensures))
-
-returns-7 : tie.Need-returns-7
-returns-7 c = rw (c .before .before .before .enum-told7 .given .1) (did-noted (c .before .noted .ensures))
+returns-4 c = rw (c .before .before .before .enum-told3 .given .1) (did-noted (c .before .noted .ensures))
 
 pub summand-spec : {M : Type 1} → statement M
 summand-spec =
-    tie.close (tie.spec (λ c. search needs) (λ c. search needs) (λ c κs. search needs) (λ c. search needs) (λ c κs. search needs) (λ c. search needs) (λ c κs. search needs) (λ c. search needs) (λ c κs. search needs) (λ c. search needs) (λ c κs. search needs) (λ c. search needs) (λ c κs. search needs) returns (λ c. search needs) returns-2 (λ c. search needs) returns-3 (λ c. search needs) returns-4 (λ c. search needs) returns-5 (λ c. search needs) returns-6 (λ c. search needs) returns-7)
+    tie.close (tie.spec (λ c. search needs) (λ c. search needs) (λ c κs. search needs) (λ c. search needs) (λ c κs. search needs) (λ c. search needs) (λ c κs. search needs) returns (λ c. search needs) returns-2 (λ c. search needs) returns-3 (λ c. search needs) returns-4)

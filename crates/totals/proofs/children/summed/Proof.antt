@@ -28,7 +28,7 @@ loop-less : tie.Need-loop-less Inv-loop μ-loop
 loop-less c = omega arith
 
 loop-again : tie.Need-loop-again Inv-loop μ-loop
-loop-again c = (search needs, search needs, walk-turn _ _ _ _ _ _ _ _ _ _ (c .before .before .before .before .before .before .before .before .before .before .before .loop .inv .2) (c .before .before .before .before .before .before .before .before .before .before .loop-test .taken) (c .before .before .before .before .before .before .before .before .before .if1 .left) (c .before .before .before .before .before .before .before .before .sum-of .ensures) (c .before .before .before .before .before .before .before .met .ensures) (c .before .before .before .before .before .before .first-for .ensures) (c .before .before .before .summand .ensures) (c .next-of .ensures))
+loop-again c = (search needs, search needs, walk-turn _ _ _ _ _ _ _ _ _ _ (c .before .before .before .before .before .before .before .before .before .before .before .loop .inv .2) (c .before .before .before .before .before .before .before .before .sum-of .result) (c .before .before .before .before .before .before .before .hear-first .result) (c .before .before .before .before .before .before .before .before .before .before .loop-test .taken) (c .before .before .before .before .before .before .before .before .before .if1 .left) (c .before .before .before .before .before .before .before .before .sum-of .ensures) (c .before .before .before .before .before .before .before .hear-first .ensures) (c .before .before .before .before .before .before .remember .ensures) (c .before .before .before .summand .ensures) (c .next-of .ensures))
 
 returns-2 : tie.Need-returns-2 Inv-loop μ-loop
 returns-2 c = walk-out _ _ _ _ _ _ _ _ _ _ (c .before .loop .inv .2) (c .loop-test .left)

@@ -12,16 +12,16 @@ unfolding reading.dateIn bytes encode
 returns c = rw (← c .before .before .before .before .kid .ensures, c .before .before .before .if1 .taken, ← c .before .kid2 .ensures, c .if2 .taken) (told-silent _ _)
 
 returns-2 : tie.Need-returns-2
-unfolding reading.dateIn bytes encode
-returns-2 c = rw (← c .before .before .before .before .before .before .before .before .kid .ensures, c .before .before .before .before .before .before .before .if1 .taken, ← c .before .before .before .before .before .kid2 .ensures, found-is (c .before .before .before .before .if2 .left), c .before .before .before .if3 .taken) (c .before .date-from .ensures)
+unfolding reading.dateIn spelling bytes encode
+returns-2 c = rw (← c .before .before .before .before .before .before .before .before .kid .ensures, c .before .before .before .before .before .before .before .if1 .taken, ← c .before .before .before .before .before .kid2 .ensures, found-is (c .before .before .before .before .if2 .left), c .before .before .before .if3 .taken) (c .before .spelled .ensures)
 
 returns-3 : tie.Need-returns-3
 unfolding reading.dateIn spelling bytes encode
-returns-3 c = rw (← c .before .before .before .before .before .before .before .before .kid .ensures, c .before .before .before .before .before .before .before .if1 .taken, ← c .before .before .before .before .before .kid2 .ensures, found-is (c .before .before .before .before .if2 .left), c .before .before .before .if3 .left) (c .before .spelled .ensures)
+returns-3 c = rw (← c .before .before .before .before .before .before .before .before .kid .ensures, c .before .before .before .before .before .before .before .if1 .taken, ← c .before .before .before .before .before .kid2 .ensures, found-is (c .before .before .before .before .if2 .left), c .before .before .before .if3 .left) (c .before .spelled2 .ensures)
 
 returns-4 : tie.Need-returns-4
 unfolding reading.dateIn spelling bytes encode
-returns-4 c = rw (← c .before .before .before .before .kid .ensures, found-is (c .before .before .before .if1 .left)) (c .before .spelled2 .ensures)
+returns-4 c = rw (← c .before .before .before .before .kid .ensures, found-is (c .before .before .before .if1 .left)) (c .before .spelled3 .ensures)
 
 pub date-in-spec : {M : Type 1} → statement M
 date-in-spec =

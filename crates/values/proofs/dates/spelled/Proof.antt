@@ -1,5 +1,6 @@
 use borrow.Author.Needs.{needs}
 use Rattle.settlement.specs.Values as reading
+use Rattle.values.proofs.Spelled.{date-spelled}
 use Rattle.values.proofs.Telling.{told-after}
 use Rattle.values.specs.Sites.{spelling}
 use Rattle.values.proofs.dates.spelled.Statement.{statement}
@@ -7,12 +8,12 @@ use Rattle.values.proofs.dates.spelled.Tie as tie
 
 returns : tie.Need-returns
 unfolding spelling reading.otherSpelling
-returns c = rw (c .before .before .before .before .before .before .if1 .taken) (told-after (c .before .before .before .before .say-of .ensures) (c .before .date-from .ensures))
+returns c = rw (c .before .before .before .before .before .before .if1 .taken, ← date-spelled _ _ _ _ _ _ (c .before .before .before .before .before .before .before .own-text .ensures), ← c .before .before .before .before .before .before .before .own-text .ensures) (told-after (c .before .before .before .before .say .ensures) (c .before .date-from .ensures))
 
 returns-2 : tie.Need-returns-2
 unfolding spelling
-returns-2 c = rw (c .before .before .before .if1 .left) (c .before .date-from2 .ensures)
+returns-2 c = rw (c .before .before .before .if1 .left, ← date-spelled _ _ _ _ _ _ (c .before .before .before .before .own-text .ensures)) (c .before .date-from2 .ensures)
 
 pub spelled-spec : {M : Type 1} → statement M
 spelled-spec =
-    tie.close (tie.spec (λ c κs. search needs) (λ c κs. search needs) (λ c. search needs) returns (λ c κs. search needs) (λ c. search needs) returns-2)
+    tie.close (tie.spec (λ c κs. search needs) (λ c κs. search needs) (λ c κs. search needs) (λ c. search needs) returns (λ c κs. search needs) (λ c. search needs) returns-2)

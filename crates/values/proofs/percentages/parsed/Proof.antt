@@ -1,17 +1,16 @@
 use borrow.Author.Needs.{needs}
-use Rattle.settlement.specs.Values.{answered}
-use Rattle.values.specs.Sites.{parsedPercent}
+use Rattle.values.specs.Sites.{answeredAt, percentAt}
 use Rattle.values.proofs.Telling.{told-silent, told-said}
 use Rattle.values.proofs.percentages.parsed.Statement.{statement}
 use Rattle.values.proofs.percentages.parsed.Tie as tie
 
 returns : tie.Need-returns
-unfolding parsedPercent answered
-returns c = rw (← c .before .before .before .before .before .before .before .before .text-bytes .ensures, ← c .before .before .before .before .before .before .before .parse .ensures, ← c .before .before .before .before .before .before .value-of .ensures, c .before .before .before .before .enum-told .given .1, ← c .before .before .before .message-of .ensures) (told-said (c .before .say-of .ensures))
+unfolding percentAt answeredAt
+returns c = rw (← c .before .before .before .before .before .before .before .before .shown .ensures, ← c .before .before .before .before .before .before .before .parse-trimmed .ensures, ← c .before .before .before .before .before .before .value-of .ensures, c .before .before .before .before .enum-told .given .1, ← c .before .before .before .message-of .ensures) (told-said (c .before .say .ensures))
 
 returns-2 : tie.Need-returns-2
-unfolding parsedPercent answered
-returns-2 c = rw (← c .before .before .before .before .text-bytes .ensures, ← c .before .before .before .parse .ensures, ← c .before .before .value-of .ensures, c .enum-told2 .given .1) (told-silent _ _)
+unfolding percentAt answeredAt
+returns-2 c = rw (← c .before .before .before .before .shown .ensures, ← c .before .before .before .parse-trimmed .ensures, ← c .before .before .value-of .ensures, c .enum-told2 .given .1) (told-silent _ _)
 
 pub parsed-spec : {M : Type 1} → statement M
 parsed-spec =

@@ -1,0 +1,19 @@
+use borrow.Author.Needs.{needs}
+use Rattle.totals.proofs.optional.with_optional.Statement.{statement}
+use Rattle.totals.proofs.optional.with_optional.Tie as tie
+
+returns : tie.Need-returns
+returns c = rw (c .before .enum-told .given .1) (c .with-allowance .ensures)
+
+returns-2 : tie.Need-returns-2
+returns-2 c = rw (c .before .enum-told2 .given .1) (c .with-charge .ensures)
+
+returns-3 : tie.Need-returns-3
+returns-3 c = rw (c .before .enum-told3 .given .1) (c .with-rounding .ensures)
+
+returns-4 : tie.Need-returns-4
+returns-4 c = rw (c .before .enum-told4 .given .1) (c .with-paid .ensures)
+
+pub with-optional-spec : {M : Type 1} → statement M
+with-optional-spec =
+    tie.close (tie.spec (λ c. search needs) (λ c κs. search needs) (λ c. search needs) (λ c κs. search needs) (λ c. search needs) (λ c κs. search needs) (λ c. search needs) (λ c κs. search needs) returns returns-2 returns-3 returns-4)
