@@ -83,17 +83,21 @@ fn profile() {
 const CALLS: clock::Runs = clock::Runs { batches: 50, batch: 1, seconds: 2 };
 
 fn worst_tables(words: &str) {
-    for (tables, of) in [(worst::apart(), "Texts apart"), (worst::overlapping(), "Over one text")] {
-        println!("| {of} | Rust, ms | Rulzhamm, ms |");
-        println!("|---|---|---|");
-        for worst in tables.iter().filter(|w| w.name.contains(words)) {
-            let rust = match worst.document.xml.as_str() {
-                "" => "-".into(),
-                _ => format!("{:.2}", rust_time(&worst.document, CALLS) / 1e6),
-            };
-            let reader = reader_time(&worst.layout, worst.lent(), CALLS) / 1e6;
-            println!("| {} | {rust} | {reader:.2} |", worst.name);
-        }
-        println!();
+    println!("| Texts apart | Rust, ms | Rulzhamm, ms |");
+    println!("|---|---|---|");
+    for worst in worst::apart().iter().filter(|w| w.name.contains(words)) {
+        let rust = match worst.document.xml.as_str() {
+            "" => "-".into(),
+            _ => format!("{:.1}", rust_time(&worst.document, CALLS) / 1e6),
+        };
+        let reader = reader_time(&worst.layout, worst.lent(), CALLS) / 1e6;
+        println!("| {} | {rust} | {reader:.1} |", worst.name);
+    }
+    println!();
+    println!("| Over one text | Rulzhamm, s |");
+    println!("|---|---|");
+    for worst in worst::overlapping().iter().filter(|w| w.name.contains(words)) {
+        let reader = reader_time(&worst.layout, worst.lent(), CALLS) / 1e9;
+        println!("| {} | {reader:.1} |", worst.name);
     }
 }
