@@ -169,6 +169,12 @@ fn wrong_amounts() -> Worst {
     Worst::of_tree("2,730 amounts of 180 U+00A0 and `x`", &settlement(taxes))
 }
 
+fn mixed_amount() -> Worst {
+    let amount = Tree::leaf("BasisAmount", mixed(&mut Random::new(1), BYTES - 100, MIXED_WHITE, " "));
+    let tree = settlement(vec![Tree::group("ApplicableTradeTax", vec![amount])]);
+    Worst::of_tree("one amount of a million mixed bytes, before a stray byte", &tree).before_a_stray()
+}
+
 fn wrong_percentages() -> Worst {
     let rate = |_| Tree::leaf("RateApplicablePercent", late(235, "x"));
     let taxes = many(2047, |i| Tree::group("ApplicableTradeTax", vec![rate(i)]));
@@ -234,6 +240,7 @@ pub fn all() -> Vec<Worst> {
         point_codes(),
         wrong_tax_totals(),
         wrong_amounts(),
+        mixed_amount(),
         wrong_percentages(),
         blank_dates(),
         mixed_dates(),
