@@ -40,10 +40,7 @@ fn print_percentages() {
         b"percentage with over 18 digits (added) | Malformed | |",
     );
     print_row(Message::NotVat, b"tax not VAT | Unmapped | |");
-    print_row(
-        Message::Missing,
-        b"required term absent | Missing | |",
-    );
+    print_row(Message::Missing, b"required term absent | Missing | |");
 }
 
 fn print_dates() {
@@ -114,6 +111,7 @@ fn print_payments() {
     );
 }
 
+// The paragraph under the table.
 fn print_required() {
     print(
         b"
