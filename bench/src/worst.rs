@@ -1,6 +1,13 @@
 //! The worst tables that the reader accepts, as far as we know them: much to compare, to move or to walk.
 
+mod apart;
+mod overlapping;
+
+use compare::generate::Document;
 use compare::layout::{self, Layout};
+use compare::library::Lent;
+use compare::markup;
+use compare::random::Random;
 use compare::tree::Tree;
 
 const RECORDS: usize = 4096;
@@ -8,106 +15,87 @@ const BYTES: usize = 1 << 20;
 const SETTLEMENT: &str = "ApplicableHeaderTradeSettlement";
 const SUMMATION: &str = "SpecifiedTradeSettlementHeaderMonetarySummation";
 
-/// A name, its table, and its tree where its XML is not too long for the Rust.
+/// Letters of one and two bytes, and white space and others of one to three: in any order, so that no
+/// processor foresees what comes next.
+const MIXED: &[&str] = &["N", "Ä"];
+const MIXED_WHITE: &[&str] = &[" ", "\u{A0}", "x", "ä", "\u{3000}"];
+
+/// So many bytes of these letters, and of `fill` behind them.
+fn mixed(random: &mut Random, bytes: usize, letters: &[&str], fill: &str) -> String {
+    let mut text = String::new();
+    while text.len() + 3 <= bytes {
+        text += random.pick(letters);
+    }
+    let left = bytes - text.len();
+    text + &fill.repeat(left)
+}
+
+/// A table and what is lent beside it; its XML where the Rust is measured, too.
 pub struct Worst {
     pub name: &'static str,
     pub layout: Layout,
-    pub tree: Option<Tree>,
+    pub document: Document,
+    pub mode: u32,
 }
 
-fn of_tree(name: &'static str, tree: Tree) -> Worst {
-    assert!(tree.records() <= RECORDS);
-    Worst { name, layout: layout::plain(&tree), tree: Some(tree) }
-}
-
-fn settlement(children: Vec<Tree>) -> Tree {
-    Tree::group(SETTLEMENT, children)
-}
-
-fn many(count: usize, child: impl Fn(usize) -> Tree) -> Vec<Tree> {
-    (0..count).map(child).collect()
-}
-
-/// Thousands of children of one name, each read.
-fn one_name() -> Worst {
-    let taxes = many(RECORDS - 1, |_| Tree::leaf("ApplicableTradeTax", ""));
-    of_tree("4,095 empty taxes, three entries each", settlement(taxes))
-}
-
-/// Every child of an optional amount's name reads the first such child again, which stands behind half of
-/// all children, each with a name that differs in its last letter.
-fn repeated_amount() -> Worst {
-    let half = (RECORDS - 2) / 2;
-    let mut children = many(half, |_| Tree::leaf("AllowanceTotalAmounT", "1"));
-    children.extend(many(half, |_| Tree::leaf("AllowanceTotalAmount", "1")));
-    of_tree("2,047 optional amounts behind 2,047 others", settlement(vec![Tree::group(SUMMATION, children)]))
-}
-
-fn tax_totals() -> Worst {
-    let totals = many((RECORDS - 2) / 2, |_| Tree::leaf("TaxTotalAmount", "1x").with("currencyID", "USD"));
-    of_tree("2,047 tax totals in a third currency, two entries each", settlement(vec![Tree::group(SUMMATION, totals)]))
-}
-
-/// Each new name goes before all others.
-fn falling_names() -> Worst {
-    let names = many(RECORDS - 1, |i| Tree::leaf(&format!("{}{:04}", "N".repeat(240), RECORDS - i), ""));
-    of_tree("4,095 unmapped names of 244 bytes, falling", settlement(names))
-}
-
-/// Records 1 on, each made by `record`, over a text that begins with three names and goes on with one
-/// letter of one or two bytes.
-fn over_one_text(name: &'static str, letter: &str, record: impl Fn(u32) -> [u32; 6]) -> Worst {
-    let mut text = [SETTLEMENT, SUMMATION, "TaxTotalAmount", "PaymentReference"].concat().into_bytes();
-    assert_eq!(text.len(), LETTERS as usize);
-    text.extend(letter.bytes().cycle().take(LENGTH as usize));
-    let mut table = vec![1, 0, 0, SETTLEMENT.len() as u32, 0, 0];
-    for i in 1..RECORDS as u32 {
-        table.extend(record(i));
+impl Worst {
+    /// A table that the Rust does not read.
+    fn of_layout(name: &'static str, layout: Layout) -> Self {
+        assert!(layout.table.len() <= 6 * RECORDS && layout.text.len() <= BYTES, "an accepted table: {name}");
+        let document = Document {
+            xml: String::new(),
+            currency: Some("EUR".into()),
+            identifier: Some("urn:cen.eu:en16931:2017".into()),
+            rules: 4095,
+        };
+        Self { name, layout, document, mode: 0 }
     }
-    Worst { name, layout: Layout { table, text }, tree: None }
+
+    /// The table of a tree, in which no two texts overlap.
+    fn of_tree(name: &'static str, tree: &Tree) -> Self {
+        let mut worst = Self::of_layout(name, layout::plain(tree));
+        worst.document.xml = markup::plain(tree);
+        worst
+    }
+
+    fn with_currency(mut self, currency: String) -> Self {
+        self.document.currency = Some(currency);
+        self
+    }
+
+    fn with_identifier(mut self, identifier: String) -> Self {
+        self.document.identifier = Some(identifier);
+        self
+    }
+
+    /// The same in mode 1, which the Rust does not have.
+    fn in_mode_1(mut self) -> Self {
+        self.mode = 1;
+        self.without_the_rust()
+    }
+
+    /// The same with a byte behind all texts that is no UTF-8, so that each text is tested for itself.
+    fn before_a_stray(mut self) -> Self {
+        self.layout.text.push(0xFF);
+        self.without_the_rust()
+    }
+
+    fn without_the_rust(mut self) -> Self {
+        self.document.xml.clear();
+        self
+    }
+
+    pub fn lent(&self) -> Lent<'_> {
+        Lent { mode: self.mode, ..compare::lent(&self.document) }
+    }
 }
 
-/// Where the one letter begins, and how often it stands there.
-const LETTERS: u32 = 31 + 47 + 14 + 16;
-const LENGTH: u32 = BYTES as u32 - LETTERS;
-
-/// Numbers to parse.
-fn long_amounts() -> Worst {
-    let amount = |i| match i {
-        1 => [1, 0, 31, 47, LETTERS, LENGTH],
-        _ => [1, 1, 31 + 47, 14, LETTERS, LENGTH],
-    };
-    over_one_text("4,094 tax totals of a million digits, one text", "0", amount)
+/// Tables whose texts do not overlap, as those laid out from XML.
+pub fn apart() -> Vec<Worst> {
+    apart::all()
 }
 
-/// White space to trim.
-fn long_blanks() -> Worst {
-    let reference = |_| [1, 0, 31 + 47 + 14, 16, LETTERS, LENGTH];
-    over_one_text("4,095 references of a million white bytes, one text", "\u{A0}", reference)
-}
-
-/// Only spans to check: attributes that nobody reads.
-fn long_spans() -> Worst {
-    let attribute = |_| [2, 0, LETTERS, LENGTH, LETTERS, LENGTH];
-    over_one_text("8,190 spans of a million bytes outside ASCII, one text", "ä", attribute)
-}
-
-/// Each name is the beginning of the one before it.
-fn long_names() -> Worst {
-    let element = |i| [1, 0, LETTERS, LENGTH - i, LETTERS, LENGTH];
-    over_one_text("4,095 unmapped names of a million bytes, falling, one text", "N", element)
-}
-
-/// All of them, with how often each is run.
-pub fn all() -> Vec<(Worst, usize)> {
-    vec![
-        (one_name(), 50),
-        (repeated_amount(), 20),
-        (tax_totals(), 50),
-        (falling_names(), 20),
-        (long_amounts(), 1),
-        (long_blanks(), 1),
-        (long_spans(), 1),
-        (long_names(), 1),
-    ]
+/// Tables whose texts overlap.
+pub fn overlapping() -> Vec<Worst> {
+    overlapping::all()
 }

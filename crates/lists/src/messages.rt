@@ -40,10 +40,7 @@ fn print_percentages() {
         b"percentage with over 18 digits (added) | Malformed | |",
     );
     print_row(Message::NotVat, b"tax not VAT | Unmapped | |");
-    print_row(
-        Message::Missing,
-        b"required term absent | Missing | by the term: BT-106 BR-12, BT-109 BR-13, BT-112 BR-14, BT-115 BR-15, BT-92 BR-31, BT-95 BR-32, BT-99 BR-36, BT-102 BR-37, BT-116 BR-45, BT-117 BR-46, BT-118 BR-47, BT-25 BR-55 |",
-    );
+    print_row(Message::Missing, b"required term absent | Missing | |");
 }
 
 fn print_dates() {
@@ -60,7 +57,7 @@ fn print_dates() {
     );
     print_row(
         Message::UnknownVatPointCode,
-        b"unknown VAT point code | Malformed | | CII spells the model's 3, 35 and 432 as 5, 29 and 72",
+        b"unknown VAT point code | Malformed | | CII spells the model's 3, 35 and 432 as 5, 29 and 72 \xE2\x80\x94 the same three meanings",
     );
 }
 
@@ -114,6 +111,17 @@ fn print_payments() {
     );
 }
 
+// The paragraph under the table.
+fn print_required() {
+    print(
+        b"
+An entry of message 9 cites no rule. Its wording names the one that requires the term: BT-106 BR-12,
+BT-109 BR-13, BT-112 BR-14, BT-115 BR-15, BT-92 BR-31, BT-95 BR-32, BT-99 BR-36, BT-102 BR-37, BT-116 BR-45,
+BT-117 BR-46, BT-118 BR-47, BT-25 BR-55.
+",
+    );
+}
+
 pub(crate) fn print_messages() {
     print(
         b"# Messages
@@ -129,4 +137,5 @@ The number of an entry's message, what it means, and the kind, rule and hint tha
     print_dates();
     print_totals();
     print_payments();
+    print_required();
 }

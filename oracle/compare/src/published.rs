@@ -1,7 +1,7 @@
 //! The published Rust's answer, brought to the common form.
 
 use crate::generate::Document;
-use crate::names::MESSAGES;
+use crate::names::{MESSAGES, REQUIRED_BY};
 use crate::reading::{Entry, Field, Reading, Term};
 use original::en16931::{Date, Identifier, InvoiceAmount, Percentage, profiles};
 use original::invoice::{DocumentAllowanceCharge, Invoice, PaymentMeans};
@@ -20,8 +20,13 @@ pub fn parse(xml: &str) -> roxmltree::Document<'_> {
     roxmltree::Document::parse(xml).expect("well-formed XML")
 }
 
+/// Puts a rules number in force for the readings that follow.
+pub fn put_in_force(rules: u32) {
+    profiles::RULES.store(rules, Ordering::Relaxed);
+}
+
 fn outcome(n: Node<'_, '_>, d: &Document) -> Outcome {
-    profiles::RULES.store(d.rules, Ordering::Relaxed);
+    put_in_force(d.rules);
     original::settlement(n, d.currency.clone(), d.identifier.clone())
 }
 
@@ -192,21 +197,17 @@ fn percent(p: Option<Percentage>) -> Field {
 }
 
 /// The entry, its message told by its kind and wording; kind, rule and hint must be those that
-/// docs/MESSAGES.md gives the message.
+/// docs/MESSAGES.md gives the message, and so must the rule that the wording of a missing term names.
 fn entry(e: &original::report::Entry, above: &str) -> Entry {
     let message = message(e);
     let [kind, rule, hint] = MESSAGES[message as usize];
     assert_eq!(kind, format!("{:?}", e.kind), "the kind of {e}");
-    assert!(e.hint.as_deref().unwrap_or("").starts_with(hint), "the hint of {e}");
-    match (message, &e.term) {
-        // its rule stands in its wording
-        (9, Some(term)) => {
-            let term = term.rsplit('/').next().expect("a term");
-            let rules = format!("{},", rule.strip_prefix("by the term: ").expect("rules by the term"));
-            let requires = e.message.split("absent; ").nth(1).and_then(|m| m.split(' ').next()).expect("a rule");
-            assert!(rules.contains(&format!("{term} {requires},")), "the rule of {e}");
-        }
-        _ => assert_eq!(rule, e.rule.as_deref().unwrap_or(""), "the rule of {e}"),
+    assert_eq!(rule, e.rule.as_deref().unwrap_or(""), "the rule of {e}");
+    assert_eq!(hint, e.hint.as_deref().unwrap_or(""), "the hint of {e}");
+    if e.kind == Kind::Missing {
+        let term = e.term.as_deref().and_then(|t| t.rsplit('/').next()).expect("a term");
+        let named = e.message.split("absent; ").nth(1).and_then(|m| m.split(' ').next()).expect("a rule");
+        assert_eq!(REQUIRED_BY.get(term), Some(&named), "the rule that requires the term of {e}");
     }
     Entry {
         message,
