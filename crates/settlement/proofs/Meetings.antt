@@ -5,7 +5,6 @@ use mathlib.Core.List.{List, [], _∷_, _++_, append-assoc, append-nil, foldl, f
 use mathlib.Core.Option.{Option, none, some}
 use Rattle.text.specs.Order.{equal}
 use Rattle.text.specs.Utf8.{bytes, encode}
-use Rattle.codes.specs.Conformant.{conformant}
 use Rattle.names.specs.declared.message.Message.{Message}
 use Rattle.names.specs.declared.parent.Parent.the-variants as Parent
 use Rattle.names.specs.declared.path.Path.{Path}
@@ -103,7 +102,7 @@ module _ {N X : Type 0} (L : Lent) (D : Doc N X) where
 
   charge-strays : (b : Bool) (s : Counts) (c : N) → cond b (logistics L D s c) (allowanceOrCharge L D s c) .strays ≡ []
   unfolding logistics logisticsRead logisticsLeft allowanceOrCharge
-  charge-strays true s c = go (conformant (L .identifier))
+  charge-strays true s c = go (L .extension)
     where
       go : (b : Bool) → cond b (logisticsRead L D s c) (logisticsLeft s) .strays ≡ []
       go true = refl
