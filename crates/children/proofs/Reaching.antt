@@ -13,11 +13,11 @@ use Rattle.settlement.specs.Values.{Lent}
 use Rattle.element.specs.LinkDoc.{linkDoc}
 use Rattle.children.specs.Counts.{Counted}
 use Rattle.means.specs.declared.Next.{Next}
-use Rattle.children.specs.Kinds.{kindIs}
+use Rattle.kinds.specs.Kinds.{kindIs}
 use Rattle.steps.specs.States.{state}
 use Rattle.steps.specs.Steps.{Stepped}
 use Rattle.children.specs.Walks.{Walked}
-use Rattle.children.specs.declared.kinds.Kind as Kind
+use Rattle.kinds.specs.declared.child.Kind as Kind
 use Rattle.steps.specs.declared.state.State as Code
 use Rattle.steps.specs.declared.state.Plain.{Plain}
 use Rattle.steps.specs.declared.state.Tally.{Tally}

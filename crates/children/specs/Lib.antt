@@ -1,3 +1,2 @@
-pub mod Kinds
 pub mod Counts
 pub mod Walks

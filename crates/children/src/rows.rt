@@ -7,14 +7,14 @@ ghost use Rattle.settlement.specs.Kinds.{tradeTax, allowanceCharge, logisticsCh
 ghost use Rattle.element.specs.LinkDoc.{linkDoc};
 ghost use Rattle.values.specs.Sites.{lentWith};
 ghost use Rattle.children.specs.Counts.{Counted};
-ghost use Rattle.children.specs.Kinds.{rowIs};
+ghost use Rattle.kinds.specs.Kinds.{rowIs};
 ghost use Rattle.steps.specs.States.{state};
 ghost use Rattle.steps.specs.Steps.{Stepped};
 ghost use Rattle.steps.specs.declared.state.Plain.{Plain};
 ghost use Rattle.steps.specs.declared.state.Billing.{Billing};
 ghost use Rattle.steps.specs.declared.state.MaybeTotals.{MaybeTotals};
-use crate::kinds::RowKind;
 use charges::MaybeCharge;
+use kinds::RowKind;
 use means::Next;
 use steps::Tally;
 

@@ -8,7 +8,7 @@ ghost use Rattle.settlement.specs.Kinds.{period, paymentTerms, paymentMeans};
 ghost use Rattle.settlement.specs.Values.{Lent};
 ghost use Rattle.element.specs.LinkDoc.{linkDoc};
 ghost use Rattle.values.specs.Sites.{lentWith};
-ghost use Rattle.steps.specs.Kinds.{billingIs};
+ghost use Rattle.kinds.specs.Kinds.{billingIs};
 ghost use Rattle.steps.specs.States.{state};
 ghost use Rattle.steps.specs.Steps.{Stepped};
 ghost use Rattle.steps.specs.declared.state.MaybeTotals.{MaybeTotals};
@@ -16,14 +16,8 @@ ghost use Rattle.steps.specs.declared.state.Plain.{Plain};
 ghost use Rattle.steps.specs.declared.state.Tally.{Tally};
 use crate::state::Billing;
 use crate::state::MaybePeriod;
+use kinds::BillingKind;
 use means::Next;
-
-// A child that says when or how is paid.
-pub enum BillingKind {
-    Period,
-    PaymentTerms,
-    PaymentMeans,
-}
 
 // What was said so far, and where the next rows go.
 pub struct Billed {

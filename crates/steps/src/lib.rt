@@ -10,9 +10,7 @@ mod state;
 mod summing;
 
 pub use billing::Billed;
-pub use billing::BillingKind;
 pub use billing::billing_child;
-pub use plain::PlainKind;
 pub use plain::plain_child;
 pub use state::Billing;
 pub use state::MaybePayee;

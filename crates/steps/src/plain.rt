@@ -4,7 +4,7 @@ ghost use lib.IntN.{ℤ};
 ghost use Rattle.settlement.specs.Values.{Lent};
 ghost use Rattle.element.specs.LinkDoc.{linkDoc};
 ghost use Rattle.means.specs.declared.Next.{Next};
-ghost use Rattle.steps.specs.Kinds.{plainIs};
+ghost use Rattle.kinds.specs.Kinds.{plainIs};
 ghost use Rattle.steps.specs.States.{state};
 ghost use Rattle.steps.specs.Steps.{Stepped};
 ghost use Rattle.steps.specs.declared.state.Tally.{Tally};
@@ -13,17 +13,8 @@ ghost use Rattle.steps.specs.declared.state.MaybeTotals.{MaybeTotals};
 use crate::state::MaybePayee;
 use crate::state::Plain;
 use crate::state::Reference;
+use kinds::PlainKind;
 use report::Text;
-
-// A child that gives a term or a group alone.
-pub enum PlainKind {
-    CreditorReference,
-    PaymentReference,
-    TaxCurrency,
-    InvoiceCurrency,
-    Payee,
-    Accounting,
-}
 
 // BT-90, BT-83, BT-6, BT-5, BG-10 or BT-19: the one that element c is.
 pub fn plain_child(

@@ -2,8 +2,8 @@ use borrow.Author.Needs.{needs}
 use Rattle.settlement.proofs.Naming.{meant-here, meant-later}
 use Rattle.settlement.specs.Kinds.{creditorReference, paymentReference, taxCurrency, invoiceCurrency, payee, paymentMeans, tradeTax, kinds, kindNamed}
 use Rattle.text.specs.Utf8.{bytes, encode}
-use Rattle.children.proofs.kinds.kind_named.Statement.{statement}
-use Rattle.children.proofs.kinds.kind_named.Tie as tie
+use Rattle.kinds.proofs.child.kind_named.Statement.{statement}
+use Rattle.kinds.proofs.child.kind_named.Tie as tie
 
 returns : tie.Need-returns
 unfolding kindNamed kinds bytes encode

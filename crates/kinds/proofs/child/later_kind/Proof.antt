@@ -2,8 +2,8 @@ use borrow.Author.Needs.{needs}
 use Rattle.settlement.proofs.Naming.{meant-here, meant-later, meant-none}
 use Rattle.settlement.specs.Kinds.{period, allowanceCharge, logisticsCharge, paymentTerms, summation, precedingInvoice, accounting, kinds}
 use Rattle.text.specs.Utf8.{bytes, encode}
-use Rattle.children.proofs.kinds.later_kind.Statement.{statement}
-use Rattle.children.proofs.kinds.later_kind.Tie as tie
+use Rattle.kinds.proofs.child.later_kind.Statement.{statement}
+use Rattle.kinds.proofs.child.later_kind.Tie as tie
 
 returns : tie.Need-returns
 unfolding kinds bytes encode

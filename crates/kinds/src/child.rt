@@ -4,12 +4,27 @@ ghost use lib.ListN.{drop};
 ghost use Rattle.settlement.specs.Kinds.{other, meant, kinds, kindNamed};
 ghost use Rattle.settlement.specs.Settlement.{kindOf};
 ghost use Rattle.element.specs.LinkDoc.{linkDoc};
-ghost use Rattle.children.specs.Kinds.{kindIs};
-use steps::BillingKind;
-use steps::PlainKind;
+ghost use Rattle.kinds.specs.Kinds.{kindIs};
+
+// A child that gives a term or a group alone.
+pub enum PlainKind {
+    CreditorReference,
+    PaymentReference,
+    TaxCurrency,
+    InvoiceCurrency,
+    Payee,
+    Accounting,
+}
+
+// A child that says when or how is paid.
+pub enum BillingKind {
+    Period,
+    PaymentTerms,
+    PaymentMeans,
+}
 
 // A child that makes a row.
-pub(crate) enum RowKind {
+pub enum RowKind {
     TradeTax,
     AllowanceCharge,
     LogisticsCharge,
@@ -17,7 +32,7 @@ pub(crate) enum RowKind {
 }
 
 // What a child is, by the part of the state that it changes.
-pub(crate) enum Kind {
+pub enum Kind {
     Plain(PlainKind),
     Row(RowKind),
     Billing(BillingKind),
@@ -82,7 +97,7 @@ fn kind_named(name: &[u8]) -> Kind
 }
 
 // What element c is.
-pub(crate) fn kind_of(table: &[u32], text: &[u8], links: &[u16], c: usize) -> Kind
+pub fn kind_of(table: &[u32], text: &[u8], links: &[u16], c: usize) -> Kind
     ensures { λ r. ⌜ kindIs r ≡ kindOf (linkDoc (now (table .entry)) (now (text .entry)) (now (links .entry))) c ⌝ }
 {
     kind_named(element::shown(text, element::name(table, c)))

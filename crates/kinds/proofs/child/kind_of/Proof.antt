@@ -1,7 +1,7 @@
 use borrow.Author.Needs.{needs}
 use Rattle.settlement.specs.Settlement.{kindOf}
-use Rattle.children.proofs.kinds.kind_of.Statement.{statement}
-use Rattle.children.proofs.kinds.kind_of.Tie as tie
+use Rattle.kinds.proofs.child.kind_of.Statement.{statement}
+use Rattle.kinds.proofs.child.kind_of.Tie as tie
 
 returns : tie.Need-returns
 unfolding kindOf
