@@ -57,19 +57,19 @@ sumsOf s =
     }
 
 -- the amounts with one of them set, or the two of a tax total
-abbrev pub setAllowance : Amount → CodeSums.Sums → CodeSums.Sums
+abbrev setAllowance : Amount → CodeSums.Sums → CodeSums.Sums
 setAllowance allowance s = record { allowance = allowance; charge = s .charge; vat = s .vat; accounting = s .accounting; paid = s .paid; rounding = s .rounding }
 
-abbrev pub setCharge : Amount → CodeSums.Sums → CodeSums.Sums
+abbrev setCharge : Amount → CodeSums.Sums → CodeSums.Sums
 setCharge charge s = record { allowance = s .allowance; charge = charge; vat = s .vat; accounting = s .accounting; paid = s .paid; rounding = s .rounding }
 
 abbrev pub setVat : Amount → Amount → CodeSums.Sums → CodeSums.Sums
 setVat vat accounting s = record { allowance = s .allowance; charge = s .charge; vat = vat; accounting = accounting; paid = s .paid; rounding = s .rounding }
 
-abbrev pub setPaid : Amount → CodeSums.Sums → CodeSums.Sums
+abbrev setPaid : Amount → CodeSums.Sums → CodeSums.Sums
 setPaid paid s = record { allowance = s .allowance; charge = s .charge; vat = s .vat; accounting = s .accounting; paid = paid; rounding = s .rounding }
 
-abbrev pub setRounding : Amount → CodeSums.Sums → CodeSums.Sums
+abbrev setRounding : Amount → CodeSums.Sums → CodeSums.Sums
 setRounding a s = record { allowance = s .allowance; charge = s .charge; vat = s .vat; accounting = s .accounting; paid = s .paid; rounding = a }
 
 -- the amounts with an optional one set

@@ -82,36 +82,18 @@ pub(crate) fn hear_first(
 fn with_first(f: Firsts, which: Optional, heard: Heard) -> Firsts
     ensures { λ r. ⌜ r ≡ setFirst which heard f ⌝ }
 {
-    let allowance = f.allowance;
-    let charge = f.charge;
-    let rounding = f.rounding;
-    let paid = f.paid;
     let first = First::Met(heard);
     match which {
         Optional::AllowanceTotal => Firsts {
             allowance: first,
-            charge,
-            rounding,
-            paid,
+            ..f
         },
-        Optional::ChargeTotal => Firsts {
-            allowance,
-            charge: first,
-            rounding,
-            paid,
-        },
+        Optional::ChargeTotal => Firsts { charge: first, ..f },
         Optional::Rounding => Firsts {
-            allowance,
-            charge,
             rounding: first,
-            paid,
+            ..f
         },
-        Optional::Prepaid => Firsts {
-            allowance,
-            charge,
-            rounding,
-            paid: first,
-        },
+        Optional::Prepaid => Firsts { paid: first, ..f },
     }
 }
 

@@ -6,10 +6,6 @@ ghost use Rattle.values.specs.Sites.{siteOf};
 ghost use Rattle.totals.specs.State.{sumsOf, siteFor, setOptional, withOptional, Summed};
 use crate::state::Summing;
 use crate::state::Sums;
-use crate::state::with_allowance;
-use crate::state::with_charge;
-use crate::state::with_paid;
-use crate::state::with_rounding;
 use crate::sum::Optional;
 use money::Heard;
 use names::Path;
@@ -36,10 +32,19 @@ fn with_optional(s: Sums, which: Optional, amount: Amount) -> Sums
     ensures { λ r. ⌜ r ≡ setOptional which amount s ⌝ }
 {
     match which {
-        Optional::AllowanceTotal => with_allowance(s, amount),
-        Optional::ChargeTotal => with_charge(s, amount),
-        Optional::Rounding => with_rounding(s, amount),
-        Optional::Prepaid => with_paid(s, amount),
+        Optional::AllowanceTotal => Sums {
+            allowance: amount,
+            ..s
+        },
+        Optional::ChargeTotal => Sums {
+            charge: amount,
+            ..s
+        },
+        Optional::Rounding => Sums {
+            rounding: amount,
+            ..s
+        },
+        Optional::Prepaid => Sums { paid: amount, ..s },
     }
 }
 

@@ -1,6 +1,6 @@
 // What a summation holds, and the state of a reading of its children.
 ghost use mathlib.Core.Path.{_≡_};
-ghost use Rattle.totals.specs.State.{setAllowance, setCharge, setVat, setPaid, setRounding};
+ghost use Rattle.totals.specs.State.{setVat};
 use amount::InvoiceAmount;
 use report::Amount;
 use report::Text;
@@ -47,96 +47,13 @@ pub(crate) struct Frame {
     pub(crate) n: usize,
 }
 
-// The amounts with BT-107 set.
-pub(crate) fn with_allowance(s: Sums, allowance: Amount) -> Sums
-    ensures { λ r. ⌜ r ≡ setAllowance allowance s ⌝ }
-{
-    let charge = s.charge;
-    let vat = s.vat;
-    let accounting = s.accounting;
-    let paid = s.paid;
-    let rounding = s.rounding;
-    Sums {
-        allowance,
-        charge,
-        vat,
-        accounting,
-        paid,
-        rounding,
-    }
-}
-
-// The amounts with BT-108 set.
-pub(crate) fn with_charge(s: Sums, charge: Amount) -> Sums
-    ensures { λ r. ⌜ r ≡ setCharge charge s ⌝ }
-{
-    let allowance = s.allowance;
-    let vat = s.vat;
-    let accounting = s.accounting;
-    let paid = s.paid;
-    let rounding = s.rounding;
-    Sums {
-        allowance,
-        charge,
-        vat,
-        accounting,
-        paid,
-        rounding,
-    }
-}
-
 // The amounts with BT-110 and BT-111 set.
 pub(crate) fn with_vat(s: Sums, vat: Amount, accounting: Amount) -> Sums
     ensures { λ r. ⌜ r ≡ setVat vat accounting s ⌝ }
 {
-    let allowance = s.allowance;
-    let charge = s.charge;
-    let paid = s.paid;
-    let rounding = s.rounding;
     Sums {
-        allowance,
-        charge,
         vat,
         accounting,
-        paid,
-        rounding,
-    }
-}
-
-// The amounts with BT-113 set.
-pub(crate) fn with_paid(s: Sums, paid: Amount) -> Sums
-    ensures { λ r. ⌜ r ≡ setPaid paid s ⌝ }
-{
-    let allowance = s.allowance;
-    let charge = s.charge;
-    let vat = s.vat;
-    let accounting = s.accounting;
-    let rounding = s.rounding;
-    Sums {
-        allowance,
-        charge,
-        vat,
-        accounting,
-        paid,
-        rounding,
-    }
-}
-
-// The amounts with BT-114 set.
-pub(crate) fn with_rounding(s: Sums, rounding: Amount) -> Sums
-    ensures { λ r. ⌜ r ≡ setRounding rounding s ⌝ }
-{
-    let allowance = s.allowance;
-    let charge = s.charge;
-    let vat = s.vat;
-    let accounting = s.accounting;
-    let paid = s.paid;
-    Sums {
-        allowance,
-        charge,
-        vat,
-        accounting,
-        paid,
-        rounding,
+        ..s
     }
 }
