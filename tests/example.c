@@ -81,16 +81,16 @@ static void expect_example(void) {
     element(0, "Foo", "");
     memset(held, 0x55, sizeof held);
     read_table(0);
-    expect("refusal", answer[0], 0);
-    expect("held rows", answer[2], 1);
-    expect("entries", answer[3], 0);
-    expect("unmapped rows", answer[4], 1);
-    expect_text("BT-5", answer + 5, "EUR");
-    expect_absent("BT-6", answer + 7);
-    expect("BG-16", answer[30], 1);
-    expect("BG-18", answer[37], 0);
-    expect("BT-115", answer[64], 0);
-    expect("kind of the held row", held[0], 1);
+    expect("refusal", answer[RULZHAMM_REFUSAL], RULZHAMM_NOT_REFUSED);
+    expect("held rows", answer[RULZHAMM_HELD_COUNT], 1);
+    expect("entries", answer[RULZHAMM_ENTRY_COUNT], 0);
+    expect("unmapped rows", answer[RULZHAMM_UNMAPPED_COUNT], 1);
+    expect_text("BT-5", answer + RULZHAMM_BT_5, "EUR");
+    expect_absent("BT-6", answer + RULZHAMM_BT_6);
+    expect("BG-16", answer[RULZHAMM_BG_16], 1);
+    expect("BG-18", answer[RULZHAMM_BG_18], 0);
+    expect("BT-115", answer[RULZHAMM_BT_115], 0);
+    expect("kind of the held row", held[0], RULZHAMM_TRANSFER);
     expect_text("account", held + 1, "DE1");
     expect_absent("account name", held + 3);
     expect("parent of the unmapped row", unmapped[0], 1);
@@ -99,16 +99,16 @@ static void expect_example(void) {
 
     /* A rules number above 4,095 is refusal 2, and the lists stay as they are. */
     held[0] = 77;
-    read_table(4096);
-    expect("refusal", answer[0], 2);
-    expect("held rows of a refusal", answer[2], 0);
-    expect_absent("BT-5 of a refusal", answer + 5);
+    read_table(RULZHAMM_ALL_RULES + 1);
+    expect("refusal", answer[RULZHAMM_REFUSAL], RULZHAMM_REFUSED_RULES);
+    expect("held rows of a refusal", answer[RULZHAMM_HELD_COUNT], 0);
+    expect_absent("BT-5 of a refusal", answer + RULZHAMM_BT_5);
     expect("a list after a refusal", held[0], 77);
 }
 
 /* A VAT row: taxable amount, category, rate as unscaled number and scale, no exemption reason. */
 static void expect_vat(const int64_t *row, int64_t taxable, const char *category, int64_t unscaled, int64_t scale) {
-    expect("kind of a VAT row", row[0], 2);
+    expect("kind of a VAT row", row[0], RULZHAMM_VAT);
     expect("taxable amount", row[1], taxable);
     expect("tax", row[2], 0);
     expect_text("category", row + 3, category);
@@ -137,9 +137,9 @@ static void expect_vat_breakdown(void) {
     element(tax, "CategoryCode", "E");
     /* Rule BR-12 alone: of what is absent only BT-106 makes an entry. */
     read_table(1);
-    expect("refusal", answer[0], 0);
-    expect("held rows", answer[2], 2);
-    expect("entries", answer[3], 2);
+    expect("refusal", answer[RULZHAMM_REFUSAL], RULZHAMM_NOT_REFUSED);
+    expect("held rows", answer[RULZHAMM_HELD_COUNT], 2);
+    expect("entries", answer[RULZHAMM_ENTRY_COUNT], 2);
     expect_vat(held, 1000, "S", -1950, 2);
     expect_vat(held + RULZHAMM_HELD, 0, "E", 0, -1);
     /* 1.000 has over two decimals: ApplicableTradeTax/CalculatedAmount, BG-23[1]/BT-117. */
@@ -151,6 +151,7 @@ static void expect_vat_breakdown(void) {
 }
 
 int main(void) {
+    expect("version", rulzhamm_version(), RULZHAMM_VERSION);
     expect_example();
     expect_vat_breakdown();
     return failures != 0;
