@@ -6,7 +6,8 @@
  *
  * A call takes about 30 KB of stack and no heap. There is no global state: threads may call at the same
  * time, each with lists and an answer of its own. An invoice takes less than a millisecond, but a table
- * whose texts overlap may take many seconds: docs/PERFORMANCE.md has the worst ones. */
+ * whose names and texts overlap may take more than a minute, and the identifier is searched once, however
+ * long it is: docs/PERFORMANCE.md has the worst ones. */
 #ifndef RULZHAMM_H
 #define RULZHAMM_H
 
