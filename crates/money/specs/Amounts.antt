@@ -1,4 +1,4 @@
--- What the code's faults of a currency, what was heard, and missing amounts mean.
+-- What the code's faults of a currency, what was heard, and missing amounts mean, and what an amount says whose trimmed text stands at a place: `amount-spelled` (proofs/Spelled.antt) joins that to `amountFrom`.
 use mathlib.Core.List.{List, [], _∷_}
 use mathlib.Core.Option.{Option, none, some}
 use Prim.Native.Nat.{ℕ}

@@ -1,4 +1,4 @@
--- What the code's values mean.
+-- What the code's values mean, and what a percentage or a date says whose trimmed text stands at a place: `percent-spelled` and `date-spelled` (proofs/Spelled.antt) join that to `percentOf` and `dateFrom`.
 use mathlib.Core.Bool.{Bool, true, false, cond}
 use mathlib.Core.List.{List, [], _∷_}
 use mathlib.Core.Option.{Option, none, some}
