@@ -1,4 +1,4 @@
--- The grammar of xs:decimal as productions: decimal ::= sign digit* point, at least one digit in all. `spelled-decimal` and `decimal-spelled` (proofs/Spelling.antt) say that `decimal` accepts just this.
+-- The grammar of xs:decimal as productions (XML Schema part 2, 3.2.3.1): decimal ::= sign digit* point, at least one digit in all. `spelled-decimal` and `decimal-spelled` (proofs/Spelling.antt) say that `decimal` accepts just this.
 use mathlib.Core.Path.{_≡_}
 use mathlib.Core.Bool.{true, false}
 use mathlib.Core.List.{List, [], _∷_, _++_}

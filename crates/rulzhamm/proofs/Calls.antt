@@ -206,7 +206,7 @@ module _ (L : Lent) (c : HostCall) (p : HostPromised L c) (e : numberAt c 0 ≡ 
         unmappedRows = p .unmappedRows ∙ ap (λ (r : Result). rowsThen (r .unmapped) (c .unmapped)) result;
       }
 
--- two calls under the same mode, rules number, currency and identifier that read, the lists at entry being any
+-- two calls that read under the same mode, rules number and currency, and under identifiers that both are or both are not that of a conformant extension, the lists at entry being any
 module _ (L : Lent) (c d : HostCall) (p : HostPromised L c) (q : HostPromised L d) (e : numberAt c 0 ≡ pos 0) (f : numberAt d 0 ≡ pos 0) where
   -- tables that describe the same settlement leave numbers that show the same
   pub host-calls-same : treeOf (c .table) (c .text) 0 ≡ treeOf (d .table) (d .text) 0 → SameHostCalls c d

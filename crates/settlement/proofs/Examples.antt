@@ -105,6 +105,7 @@ unfolding digit allDigits number cut equal bytes encode utf8 chars front charOf 
 examples-hold =
     record {
       currencies = refl;
+      empty-amounts = refl;
       dates = refl;
       indicator-entries = refl;
       indicator-rows = refl;

@@ -81,9 +81,11 @@ badIndicator = branch "SpecifiedTradeAllowanceCharge" (branch "ChargeIndicator" 
 
 -- each with the rule that it shows; L has all rules in force
 pub record Examples (L : Lent) : Type 0 where
-  -- 1, a currencyID that is not listed; 2, one that is not the invoice's; an amount without a text says nothing of its currency
-  pub currencies : readingWith (branch "ApplicableTradeTax" (inCurrency "EURO" "BasisAmount" "1" ∷ inCurrency "USD" "CalculatedAmount" "1" ∷ []) ∷ branch "ApplicableTradeTax" (inCurrency "EURO" "BasisAmount" " " ∷ []) ∷ []) .entries ≡
+  -- 1, a currencyID that is not listed; 2, one that is not the invoice's
+  pub currencies : readingWith (branch "ApplicableTradeTax" (inCurrency "EURO" "BasisAmount" "1" ∷ inCurrency "USD" "CalculatedAmount" "1" ∷ []) ∷ []) .entries ≡
       entry Message.UnlistedCurrency (grouped Path.TradeTaxBasisAmount Term.Bt116 0) (some (bytes "EURO")) ∷ entry Message.OtherCurrency (grouped Path.TradeTaxCalculatedAmount Term.Bt117 0) (some (bytes "USD")) ∷ []
+  -- an amount without a text says nothing of its currency, required or not
+  pub empty-amounts : readingWith (branch "ApplicableTradeTax" (inCurrency "EURO" "BasisAmount" " " ∷ []) ∷ branch "SpecifiedTradeSettlementHeaderMonetarySummation" (inCurrency "EURO" "RoundingAmount" " " ∷ []) ∷ []) .entries ≡ []
   -- 12, not CCYYMMDD; 13, no such day
   pub dates : readingWith (branch "BillingSpecifiedPeriod" (branch "StartDateTime" (leaf "DateTimeString" "2024022" ∷ []) ∷ branch "EndDateTime" (leaf "DateTimeString" "20230229" ∷ []) ∷ []) ∷ []) .entries ≡
       entry Message.NotCcyymmdd (site Path.PeriodStartDateTimeString Term.None) (some (bytes "2024022")) ∷ entry Message.NoSuchDay (site Path.PeriodEndDateTimeString Term.None) (some (bytes "20230229")) ∷ []
