@@ -69,21 +69,41 @@ static void expect_old(long where) {
             expect(lists[k].numbers[i] == OLD, "a number behind the rows changed", where);
 }
 
-/* The last call's refusal: its number, no rows, and the lists as they were. */
-static void expect_refusal(int64_t refusal, long where) {
-    expect(answer[0] == refusal, "another refusal", where);
-    expect(answer[2] == 0 && answer[3] == 0 && answer[4] == 0, "a refusal that counts rows", where);
+/* An answer with blank terms: -1 where a text, a date or a code is absent, all else 0. */
+static const int64_t blank[RULZHAMM_ANSWER] = {
+    [RULZHAMM_BT_5] = -1,  [RULZHAMM_BT_6] = -1,  [RULZHAMM_BT_7] = -1,         [RULZHAMM_BT_8] = -1,
+    [RULZHAMM_BT_9] = -1,  [RULZHAMM_BT_19] = -1, [RULZHAMM_BT_20] = -1,        [RULZHAMM_BT_59] = -1,
+    [RULZHAMM_BT_60] = -1, [RULZHAMM_BT_61] = -1, [RULZHAMM_BT_60_SCHEME] = -1, [RULZHAMM_BT_61_SCHEME] = -1,
+    [RULZHAMM_BT_73] = -1, [RULZHAMM_BT_74] = -1, [RULZHAMM_BT_81] = -1,        [RULZHAMM_BT_82] = -1,
+    [RULZHAMM_BT_83] = -1, [RULZHAMM_BT_87] = -1, [RULZHAMM_BT_88] = -1,        [RULZHAMM_BT_89] = -1,
+    [RULZHAMM_BT_90] = -1, [RULZHAMM_BT_91] = -1,
+};
+
+/* The last call's answer: its first five numbers, blank terms, and behind their rows the lists as they were. */
+static void expect_blank(const int64_t first[5], long where) {
+    for (int i = 0; i < RULZHAMM_ANSWER; i++) {
+        int64_t wanted = i < 5 ? first[i] : blank[i];
+        if (answer[i] != wanted) {
+            fprintf(stderr, "answer[%d] is %lld, not %lld\n", i, (long long)answer[i], (long long)wanted);
+            expect(0, "another answer", where);
+        }
+    }
     expect_old(where);
 }
 
-/* The last call again, with one number less in one list at a time: its refusal, else 10. */
+/* The last call's refusal: its number and record, no rows, blank terms, and the lists as they were. */
+static void expect_refusal(int64_t refusal, int64_t record, long where) {
+    expect_blank((const int64_t[5]){refusal, record}, where);
+}
+
+/* The last call again, with one number less in one list at a time: its refusal and record, else 10 and 0. */
 static void expect_room(const struct lent *lent, long where) {
-    int64_t refusal = answer[0] == 0 ? 10 : answer[0];
+    int64_t refusal = answer[0] == 0 ? 10 : answer[0], record = answer[1];
     for (int k = 0; k < 3; k++)
         if (lists[k].room > 0) {
             lists[k].room--;
             call(lent);
-            expect_refusal(refusal, where);
+            expect_refusal(refusal, record, where);
             lists[k].room++;
         }
 }

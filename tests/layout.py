@@ -3,6 +3,7 @@
 
 Prints nothing but a last line, and exits with 0, where all is as it must be.
 """
+import itertools
 import os
 import subprocess
 import sys
@@ -35,8 +36,9 @@ def expect(what, holds):
         failures.append(what)
 
 
-def run(*words):
-    done = subprocess.run([sys.executable, os.path.join(ROOT, "tools", "layout.py"), *words], capture_output=True, text=True)
+def run(*words, **more):
+    tool = os.path.join(ROOT, "tools", "layout.py")
+    done = subprocess.run([sys.executable, tool, *words], capture_output=True, text=True, **more)
     expect(f"{words}: a traceback", "Traceback" not in done.stderr)
     return done.returncode, done.stderr
 
@@ -65,6 +67,17 @@ with tempfile.TemporaryDirectory() as folder:
     source = os.path.join(folder, "fit.xml")
     code, errors = run(source, f"{folder}/none")
     expect(f"no such folder: {errors!r}", code == 1 and "none/settlement.rec: No such file" in errors)
+    with tempfile.TemporaryDirectory() as other:
+        done = run(source, "", cwd=other)
+        expect(f"the current folder: {done}", done == (0, "") and sorted(os.listdir(other)) == sorted(NAMES))
+    # where one file cannot be written, that is said with its name, and the other one does not stay
+    troubles = (lambda path: os.symlink("/dev/full", path), "No space left"), (os.mkdir, "Is a directory")
+    for name, (make, said) in itertools.product(NAMES, troubles):
+        with tempfile.TemporaryDirectory() as other:
+            make(f"{other}/{name}")
+            code, errors = run(source, other)
+            expect(f"{said}: {errors!r}", code == 1 and f"{other}/{name}: {said}" in errors)
+            expect(f"{said}: a file stays", not any(os.path.isfile(f"{other}/{n}") for n in NAMES))
     for words in (), (source,), (source, folder, "more"):
         code, errors = run(*words)
         expect(f"{len(words)} words: {errors!r}", code == 2 and "INVOICE.xml FOLDER" in errors)

@@ -2,8 +2,8 @@
  * has their form): for each case the answer, then each row of the three lists, a line each, and an empty
  * line. The lists have no more room than refusal 10 asks for.
  *
- * Exits with 1 where a number behind the rows changed, or where a call with one number less in a list is
- * not refused or changes a list. */
+ * Exits with 1 where a number behind the rows changed, or where a call with one number less in a list does
+ * not answer as its refusal must or changes a list. */
 #define _POSIX_C_SOURCE 200809L
 #include "call.h"
 

@@ -4,16 +4,19 @@
   reading.py PROGRAM
 
 What must come out is document 01's ("The printed reading"), of which the first line is compared, and of a pipe
-a beginning of the reading's bytes.
+a beginning of the reading's bytes. A run that does not end is killed, and the test fails.
 """
 import fcntl
 import os
+import signal
 import struct
 import subprocess
 import sys
 import tempfile
+import threading
 import time
 
+PATIENCE = 60  # seconds for a run
 LONGEST = 4194304  # bytes of an input line that are read; document 01 has no limit
 PIPE_SIZE = 1031  # fcntl's F_SETPIPE_SZ, which Python names since 3.10
 
@@ -73,8 +76,15 @@ def lay_down(folder, records, text):
             f.write(content)
 
 
+def late(line, output):
+    sys.exit(f"input {line[:40]!r}, {output}: the program did not end in {PATIENCE} seconds")
+
+
 def printed(program, folder, line):
-    return subprocess.run([program], input=line, stdout=subprocess.PIPE, cwd=folder, check=True).stdout
+    try:
+        return subprocess.run([program], input=line, stdout=subprocess.PIPE, cwd=folder, check=True, timeout=PATIENCE).stdout
+    except subprocess.TimeoutExpired:
+        late(line, "a pipe that is read at once")
 
 
 def accounts():
@@ -103,12 +113,17 @@ def arrived(program, folder, size, blocking, wait):
     os.set_blocking(writer, blocking)
     with subprocess.Popen([program], stdin=subprocess.PIPE, stdout=writer, cwd=folder) as run:
         os.close(writer)
+        clock = threading.Timer(PATIENCE, run.kill)
+        clock.start()
         run.stdin.write(LINE)
         run.stdin.close()
         if wait:
             run.wait()
         got = slowly(reader)
+    clock.cancel()
     os.close(reader)
+    if run.returncode == -signal.SIGKILL:
+        late(LINE, f"a pipe of {size} bytes")
     return got
 
 

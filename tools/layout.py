@@ -6,8 +6,9 @@
 The settlement is the first ApplicableHeaderTradeSettlement of the file. An element's text is all its
 direct text joined; attributes with a namespace are left out. A file with a DOCTYPE is not read, as the
 original's parser reads none. What is wrong with a file is said in one line, with its name, and nothing is
-written.
+written; nor does the first file stay where the second cannot be written.
 """
+import os
 import struct
 import sys
 import xml.etree.ElementTree as xml
@@ -66,9 +67,19 @@ def lay_out(root):
     return records, bytes(text)
 
 
-def write(name, content):
-    with open(name, "wb") as f:
-        f.write(content)
+def write(folder, files):
+    """Writes the files; where one cannot be written, none stays, and the error has its name."""
+    written = []
+    try:
+        for name, content in files.items():
+            with open(os.path.join(folder, name), "wb") as f:
+                written.append(f.name)
+                f.write(content)
+    except OSError as e:
+        for name in written:
+            os.remove(name)
+        e.filename = e.filename or written[-1]
+        raise
 
 
 def main(words):
@@ -78,13 +89,13 @@ def main(words):
     source, folder = words
     try:
         records, text = lay_out(settlement_of(source))
-        write(f"{folder}/settlement.rec", b"".join(struct.pack("<6I", *r) for r in records))
-        write(f"{folder}/settlement.txt", text)
+        table = b"".join(struct.pack("<6I", *r) for r in records)
+        write(folder, {"settlement.rec": table, "settlement.txt": text})
     except Unfit as e:
         print(f"layout.py: {source} {e}", file=sys.stderr)
         return 1
     except OSError as e:
-        print(f"layout.py: {e.filename}: {e.strerror}", file=sys.stderr)
+        print(f"layout.py: {e.filename or source}: {e.strerror}", file=sys.stderr)
         return 1
     if len(records) > RECORDS or len(text) > BYTES:
         print(

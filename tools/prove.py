@@ -19,6 +19,8 @@ import tempfile
 
 # the laws by which a test of numbers in a branch becomes a test of the definition (borrow.Author.Tests)
 TESTS = ("lt-ltb", "lt-leb", "le-leb", "le-ltb", "eq-eqb", "ne-eqb")
+# how many lines of rt are shown where it fails
+LAST = 20
 
 
 def rt_dev(crate, *words):
@@ -61,9 +63,13 @@ def skeleton(crate, attempt):
         print("wrote", os.path.relpath(path))
 
 
-def generated(crate, function, folder):
-    """The lines of the file that has the function's places and needs."""
-    path = f"{folder}/Rattle.{crate}.proofs/proofs/{function}/Lts.antt"
+def generated(crate, function, folder, said=""):
+    """The lines of the file that has the function's places and needs; `said` is what `rt dev` printed."""
+    proofs = f"{folder}/Rattle.{crate}.proofs/proofs"
+    if not os.path.isdir(proofs):
+        last = "\n".join(said.rstrip().split("\n")[-LAST:])
+        sys.exit(f"prove.py: nothing was generated for crate {crate}\n{last}".rstrip())
+    path = f"{proofs}/{function}/Lts.antt"
     if not os.path.exists(path):
         sys.exit(f"prove.py: crate {crate} has no function {function} whose places are known")
     with open(path) as f:
@@ -186,8 +192,8 @@ def facts(crate, function, words):
         lines = generated(crate, function, option(words, "--from"))
     else:
         with tempfile.TemporaryDirectory() as folder:
-            rt_dev(crate, "--generated", folder)
-            lines = generated(crate, function, folder)
+            said = rt_dev(crate, "--generated", folder)
+            lines = generated(crate, function, folder, said)
     records, own, needs = places(lines)
     signed = option(words, "--signed").split(",")
     if "--fill" in words:

@@ -21,16 +21,19 @@ def line(text, start, length):
     return "%d %d %s:%s\n" % (start, length, "there" if there else "none", shown)
 
 
-def main():
+def main(words):
+    if words not in ([], ["--check"]):
+        print(__doc__)
+        return 2
     lines = "".join(line(text, start, length) for text in ("", "DE1EUR") for start in NUMBERS for length in NUMBERS)
-    if "--check" in sys.argv:
-        with open(STDOUT) as f:
-            stale = f.read() != lines
-        print("out of date" if stale else "up to date")
-        sys.exit(stale)
-    with open(STDOUT, "w") as f:
-        f.write(lines)
+    if words:
+        stale = not os.path.exists(STDOUT) or open(STDOUT, "rb").read() != lines.encode("ascii")
+        print("crates/views: " + ("out of date: stdout" if stale else "up to date"))
+        return 1 if stale else 0
+    with open(STDOUT, "wb") as f:
+        f.write(lines.encode("ascii"))
+    return 0
 
 
 if __name__ == "__main__":
-    main()
+    sys.exit(main(sys.argv[1:]))

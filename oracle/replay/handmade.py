@@ -4,8 +4,9 @@
     python3 oracle/replay/handmade.py FOLDER    adds to FOLDER/stdin and FOLDER/stdout
 
 Each refusal that a case can show (4 needs a larger table, 10 shorter lists), mode 1, message 7, document
-01's edges, odd tables, and what the first or the last of several elements leaves. The answers come from the
-model of document 01 (model.py); the program `replay` of oracle/ compares those that the Rust can give.
+01's edges, odd tables, what the first or the last of several elements leaves, and a settlement with every
+element, all of them changed in one way. The answers come from the model of document 01 (model.py); the program
+`replay` of oracle/ compares those that the Rust can give.
 """
 import os
 import sys
@@ -54,9 +55,15 @@ def changed(table, record, field, value):
     return table[:6 * record + field] + [value] + table[6 * record + field + 1:]
 
 
-def child(name, **parts):
-    """A child of the settlement with leaves."""
-    return element(name, "", *(element(part, text) for part, text in parts.items()))
+def child(name, *kids, **parts):
+    """A child of the settlement with leaves, and with other kids before them."""
+    return element(name, "", *kids, *(element(part, text) for part, text in parts.items()))
+
+
+def leaves(change, tree):
+    """The elements that stand for a tree where `change` gives those that stand for a leaf."""
+    name, text, attributes, kids = tree
+    return [(name, text, attributes, [new for kid in kids for new in leaves(change, kid)])] if kids else change(tree)
 
 
 # ---- the cases: (mode, rules, currency, identifier, (table, text))
@@ -91,6 +98,7 @@ def refusals():
     yield 0, 0, (changed(changed(table, 0, 3, 5), 3, 4, odd), text)
     yield 0, 0, (changed(late_kind, 0, 0, 2), text)
     yield 2, 4096, ([], b"")
+    yield 0, 4096, ([], b"")
 
 
 def amounts(text, **attributes):
@@ -165,10 +173,14 @@ def schemes():
 
 
 def tax_totals():
+    def codes(invoice, tax):
+        return element("InvoiceCurrencyCode", invoice), element("TaxCurrencyCode", tax)
+
+    def summation(*amounts):
+        return element(SUMMATION, "", *(element("TaxTotalAmount", text, **attributes) for text, attributes in amounts))
+
     def totals(invoice, tax, *amounts):
-        codes = element("InvoiceCurrencyCode", invoice), element("TaxCurrencyCode", tax)
-        kids = (element("TaxTotalAmount", text, **attributes) for text, attributes in amounts)
-        return 0, 0, laid(settlement(*codes, element(SUMMATION, "", *kids)))
+        return 0, 0, laid(settlement(*codes(invoice, tax), summation(*amounts)))
 
     code = lambda currency: {"currencyID": currency}
     euro, dollar, pound, none = code("EUR"), code("USD"), code("GBP"), {}
@@ -183,6 +195,11 @@ def tax_totals():
     yield totals("EUR", "USD", ("10.00", euro), ("20.00", dollar), ("x", none))
     yield totals("EUR", "USD", ("10.00", none), ("20.00", dollar), ("x", dollar))
     yield totals("EUR", "", ("10.00", euro), ("x", code(" ")))
+    # one without a currency sets BT-110 alone; case matters, in codes and in names
+    yield totals("EUR", "EUR", ("10.00", none), ("11.00", code("eur")), ("12.00", {"currencyid": "USD"}))
+    # the codes that count are the last ones before the summation
+    each = summation(*((str(n), code(c)) for n, c in enumerate(("EUR", "GBP", "USD", "PLN", "CHF", "SEK"))))
+    yield 0, 0, laid(settlement(*codes("USD", "PLN"), *codes("EUR", "GBP"), each, *codes("CHF", "SEK")))
 
 
 def means_of_payment():
@@ -191,6 +208,9 @@ def means_of_payment():
     card, debited = child("ApplicableTradeSettlementFinancialCard", ID="1"), child("PayerPartyDebtorFinancialAccount")
     bic = provider(BICID="BIC")
     nothing = provider(), provider(BICID=" ")
+    card_of = lambda name, number: child("ApplicableTradeSettlementFinancialCard", ID=number, CardholderName=name)
+    debit = lambda iban: child("PayerPartyDebtorFinancialAccount", IBANID=iban)
+    debtors = child("PayerSpecifiedDebtorFinancialInstitution", BICID="BIC2")
     for means in (
         # a later provider overwrites the one of the last account in the same payment means, also by nothing
         *([[account("DE1"), bic, last]] for last in (*nothing, provider(BICID="BIC2"))),
@@ -201,6 +221,14 @@ def means_of_payment():
         *([[last]] for last in (*nothing, bic)),
         [[card, account("DE1"), bic]],
         [[account("DE1")], [card, debited, bic]],
+        # it goes to one account, and no other name will do; an equal account is one more
+        [[account("DE1"), account("DE2"), bic, debtors, account("DE1"), provider(ProprietaryID="P")]],
+        # the first card stays as it is, and so does the first debited account; another one is an entry
+        [[card_of("A", "1"), card_of("B", "2")]],
+        [[card_of("A", "1")], [card_of("B", "2")]],
+        [[card_of(" ", " "), card_of("B", "2")], [card_of("A", "1")]],
+        [[card_of("A", "1")], [card_of("A", "1")]],
+        [[debit("DE1")], [debit("DE2")]],
         # the first code, even blank, and the first text that is not
         [[element("TypeCode", " "), element("TypeCode", "58")], [element("TypeCode", "59")]],
         [[element("Information", " "), element("Information", "a")], [element("Information", "b")]],
@@ -215,7 +243,7 @@ def means_of_payment():
 def vat_points():
     day = lambda text: element("ApplicableTradeTax", "", child("TaxPointDate", DateString=text))
     # the first code is kept, readable or not; an equal one says nothing
-    for codes in (("3", "5"), ("x", "x"), ("x", "5", "29"), (" ", "5"), ("5", "3", "5"), (" 5", "5 ")):
+    for codes in (("3", "5"), ("x", "x"), ("x", "5", "29"), (" ", "5"), ("5", "3", "5"), (" 5", "5 "), ("x", " y ")):
         yield 0, 0, laid(settlement(*(child("ApplicableTradeTax", DueDateTypeCode=text) for text in codes)))
     # dates until one is read
     for days in (("x", "20240229"), ("20240229", "20240301"), ("20240229", "x"), ("x", "x")):
@@ -252,6 +280,12 @@ def last_ones():
     for group in full:
         yield 0, 4095, laid(settlement(group, element(group[0])))
         yield 0, 4095, laid(settlement(element(group[0]), group))
+    # all of them, then with texts that cannot be read or with none; an identifier and its scheme
+    organization = child("SpecifiedLegalOrganization", element("ID", "1", schemeID="s"))
+    full = *full[:2], child("PayeeTradeParty", organization, Name="N"), full[3]
+    for text in ("x", ""):
+        last = [new for group in full for new in leaves(lambda leaf: [element(leaf[0], text)], group)]
+        yield 0, 4095, laid(settlement(*full, *last))
 
 
 def full_table():
@@ -282,6 +316,10 @@ def odd_tables():
     # names in falling order, each twice
     names = [element("Name%02d" % (n // 2)) for n in range(60, 0, -1)]
     yield 0, 0, laid(settlement(*names, element(MEANS, "", *names)))
+    # their order is that of bytes, not of letters or of UTF-16; payment means with nothing in it; a text
+    # further down, which is not the element's own
+    names = [element(name) for name in ("\U00010000", "\uff21", "\u00e9", "z", "a", "Z", "A", MEANS)]
+    yield 0, 0, laid(settlement(*names, element("TaxCurrencyCode", "", element("TaxCurrencyCode", "USD"))))
 
 
 def odd_attributes():
@@ -311,6 +349,73 @@ def odd_places():
     yield 0, 0, (root + [1, 0, 31, 0, 0, 60], text)
 
 
+def whole():
+    """A settlement with every element that is read, but for card and debited account."""
+    date = lambda name: child(name, DateTimeString="20240131", DateString="20240229")
+    vat = {"TypeCode": "VAT", "CategoryCode": "S", "RateApplicablePercent": "19"}
+    charge = lambda indicator: child(
+        "SpecifiedTradeAllowanceCharge",
+        child("ChargeIndicator", Indicator=indicator), child("CategoryTradeTax", **vat),
+        ActualAmount="2", BasisAmount="20", CalculationPercent="10", Reason="r", ReasonCode="c",
+    )
+    return settlement(
+        element("CreditorReferenceID", "C"), element("PaymentReference", "R"),
+        element("TaxCurrencyCode", "USD"), element("InvoiceCurrencyCode", "EUR"),
+        child(
+            "PayeeTradeParty", element("GlobalID", "2", schemeID="s", listID="l"),
+            child("SpecifiedLegalOrganization", element("ID", "3", schemeID="s"), GlobalID="4"), Name="N", ID="1",
+        ),
+        child(
+            MEANS, child("PayeePartyCreditorFinancialAccount", IBANID="I", ProprietaryID="P", AccountName="A"),
+            child("PayeeSpecifiedCreditorFinancialInstitution", BICID="B"),
+            child("PayeePartyCreditorFinancialAccount", ProprietaryID="P"), TypeCode="58", Information="i",
+        ),
+        child(
+            "ApplicableTradeTax", child("TaxPointDate", DateString="20240229"), **vat, DueDateTypeCode="5",
+            BasisAmount="100", CalculatedAmount="19", ExemptionReason="e", ExemptionReasonCode="c",
+        ),
+        child(
+            "BillingSpecifiedPeriod",
+            child("StartDateTime", element("DateTimeString", "20240101", format="102")), date("EndDateTime"),
+        ),
+        charge("true"), charge("no"),
+        child("SpecifiedLogisticsServiceCharge", child("AppliedTradeTax", **vat), AppliedAmount="3", Description="d"),
+        child("SpecifiedTradePaymentTerms", date("DueDateDateTime"), Description=" t ", DirectDebitMandateID="M"),
+        child(
+            SUMMATION, element("TaxTotalAmount", "19", currencyID="EUR"), LineTotalAmount="1", ChargeTotalAmount="2",
+            AllowanceTotalAmount="3", TaxBasisTotalAmount="4", RoundingAmount="5", GrandTotalAmount="6",
+            TotalPrepaidAmount="7", DuePayableAmount="8",
+        ),
+        child("InvoiceReferencedDocument", date("FormattedIssueDateTime"), IssuerAssignedID="4711"),
+        child("ReceivableSpecifiedTradeAccountingAccount", ID="0400"),
+    )
+
+
+def wholes():
+    """The whole settlement, changed everywhere in one way."""
+    def each(change):
+        return leaves(change, whole())[0]
+
+    def blank(leaf):
+        return leaf[0], " ", dict.fromkeys(leaf[2], " "), ()
+
+    def padded(leaf):
+        name, text, attributes, _ = leaf
+        return name, "\t" + NBSP + text + NBSP + "\t", {a: NBSP + value + NBSP for a, value in attributes.items()}, ()
+
+    def empty_first(tree):
+        return (*tree[:3], [new for kid in tree[3] for new in (element(kid[0]), kid)])
+
+    # the first of a name counts: before another leaf, and blank or empty before a full one
+    yield 0, each(lambda leaf: [leaf, element(leaf[0], leaf[1] + "2")])
+    yield 0, each(lambda leaf: [blank(leaf), leaf])
+    yield 0, settlement(*map(empty_first, whole()[3]))
+    # leaves of a name in another case, and leaves further down, are others
+    yield 0, each(lambda leaf: [(leaf[0].swapcase(), *leaf[1:]), element("Foo", "", leaf)])
+    # mode 1 trims amounts, percentages and dates less, and all else as mode 0
+    yield 1, each(lambda leaf: [padded(leaf)])
+
+
 def cases():
     families = (
         refusals, modes, long_percentages, edges, schemes, odd_tables,
@@ -322,6 +427,12 @@ def cases():
     charge = laid(settlement(element("SpecifiedLogisticsServiceCharge", "", element("AppliedAmount", "1"))))
     for identifier in (None, "a#conformant#b", "a:conformant:b", "a#conformant:b"):
         yield (0, 4095, None, identifier, *charge)
+    # each of the two charges with what only the other one has
+    logistics = child("SpecifiedLogisticsServiceCharge", ActualAmount="1", Reason="r", ReasonCode="c")
+    allowance = child("SpecifiedTradeAllowanceCharge", AppliedAmount="1", Description="d")
+    yield (0, 4095, None, "a#conformant#b", *laid(settlement(logistics, allowance)))
+    for mode, tree in wholes():
+        yield (mode, 4095, "EUR", "a#conformant#b", *laid(tree))
     for code in ("EUR", "eur", "EU", "ZZZ", "USD"):
         yield (0, 4095, None, None, *laid(amounts("1", currencyID=code)))
         yield (0, 4095, "ZZZ", None, *laid(amounts("1", currencyID=code)))

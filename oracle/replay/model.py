@@ -5,13 +5,16 @@
 
 Mode 1, message 7 and the refusals have no Rust to compare with, so their answers come from here; on
 all other cases this model must print what the Rust printed. It shares no code with either reader, but its
-author knew the Rust, so that on what the papers leave open it is no second opinion.
+author knew the Rust, so that on what the papers leave open it is no second opinion. The currencies are those
+of tools/edges.py.
 """
-import json
 import os
 import re
 import sys
 from typing import NamedTuple
+
+sys.path.append(os.path.join(os.path.dirname(os.path.abspath(__file__)), "..", "..", "tools"))
+from edges import CURRENCIES
 
 SETTLEMENT = "ApplicableHeaderTradeSettlement"
 SUMMATION = "SpecifiedTradeSettlementHeaderMonetarySummation"
@@ -23,8 +26,6 @@ RULES = ["BR-%d" % n for n in (12, 13, 14, 15, 31, 32, 36, 37, 45, 46, 47, 55)]
 REQUIRED = dict(zip(("BT-%d" % n for n in (106, 109, 112, 115, 92, 95, 99, 102, 116, 117, 118, 25)), RULES))
 SPACES = [*range(9, 14), 32, 0x85, 0xA0, 0x1680, *range(0x2000, 0x200B), 0x2028, 0x2029, 0x202F, 0x205F, 0x3000]
 WHITE = "".join(map(chr, SPACES))
-with open("/usr/share/iso-codes/json/iso_4217.json") as f:
-    CURRENCIES = {c["alpha_3"] for c in json.load(f)["4217"]}
 
 
 # ---- refusals
