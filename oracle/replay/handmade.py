@@ -391,10 +391,19 @@ def whole():
     )
 
 
-def wholes():
-    """The whole settlement, changed everywhere in one way."""
+def paid(*kids):
+    """A settlement of what is said of a direct debit, and a payment means with these kids."""
+    due = child("DueDateDateTime", DateString="20240229")
+    return settlement(
+        element("CreditorReferenceID", "C"), child(MEANS, *kids),
+        child("SpecifiedTradePaymentTerms", due, DirectDebitMandateID="M"),
+    )
+
+
+def changes(tree):
+    """The tree, changed everywhere in one way."""
     def each(change):
-        return leaves(change, whole())[0]
+        return leaves(change, tree)[0]
 
     def blank(leaf):
         return leaf[0], " ", dict.fromkeys(leaf[2], " "), ()
@@ -403,17 +412,30 @@ def wholes():
         name, text, attributes, _ = leaf
         return name, "\t" + NBSP + text + NBSP + "\t", {a: NBSP + value + NBSP for a, value in attributes.items()}, ()
 
-    def empty_first(tree):
-        return (*tree[:3], [new for kid in tree[3] for new in (element(kid[0]), kid)])
+    def empty_first(group):
+        return (*group[:3], [new for kid in group[3] for new in (element(kid[0]), kid)])
+
+    def other_case(groups):
+        return [(kid[0].swapcase(), *kid[1:]) if kid[3] else kid for kid in groups]
 
     # the first of a name counts: before another leaf, and blank or empty before a full one
     yield 0, each(lambda leaf: [leaf, element(leaf[0], leaf[1] + "2")])
     yield 0, each(lambda leaf: [blank(leaf), leaf])
-    yield 0, settlement(*map(empty_first, whole()[3]))
+    yield 0, settlement(*map(empty_first, tree[3]))
     # leaves of a name in another case, and leaves further down, are others
     yield 0, each(lambda leaf: [(leaf[0].swapcase(), *leaf[1:]), element("Foo", "", leaf)])
+    # and so are groups: those of the settlement, and those below them
+    yield 0, settlement(*other_case(tree[3]))
+    yield 0, settlement(*((*kid[:3], other_case(kid[3])) for kid in tree[3]))
     # mode 1 trims amounts, percentages and dates less, and all else as mode 0
     yield 1, each(lambda leaf: [padded(leaf)])
+
+
+def wholes():
+    yield from changes(whole())
+    yield from changes(paid(child("ApplicableTradeSettlementFinancialCard", ID="1", CardholderName="N")))
+    yield from changes(paid(child("PayerPartyDebtorFinancialAccount", IBANID="I", ProprietaryID="P")))
+    yield from changes(paid(child("PayerPartyDebtorFinancialAccount", ProprietaryID="P")))
 
 
 def cases():
