@@ -4,7 +4,7 @@
     python3 oracle/replay/handmade.py FOLDER    adds to FOLDER/stdin and FOLDER/stdout
 
 Each refusal that a case can show (4 needs a larger table, 10 shorter lists), mode 1, message 7, document
-01's edges, odd tables, what the first or the last of several elements leaves, and a settlement with every
+01's edges, odd tables, what the first or the last of several elements leaves, and settlements that have every
 element, all of them changed in one way. The answers come from the model of document 01 (model.py); the program
 `replay` of oracle/ compares those that the Rust can give.
 """
@@ -432,6 +432,7 @@ def changes(tree):
 
 
 def wholes():
+    """Settlements that together have every element that is read, each changed."""
     yield from changes(whole())
     yield from changes(paid(child("ApplicableTradeSettlementFinancialCard", ID="1", CardholderName="N")))
     yield from changes(paid(child("PayerPartyDebtorFinancialAccount", IBANID="I", ProprietaryID="P")))
