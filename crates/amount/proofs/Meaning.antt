@@ -10,13 +10,13 @@ use borrow.Author.Tests.{le-leb, lt-leb, lt-ltb, le-ltb, ne-eqb}
 use lib.Dec.{leb, eqb, lit<}
 use lib.ListN.{length, take, length-append}
 use lib.IntN.{ℤ}
-use Rattle.text.specs.Answer.{Answer, read, says}
+use Rattle.text.specs.Answer.{Answer, read, says, silent}
 use Rattle.text.specs.Digits.{digit, allDigits, number}
-use Rattle.text.proofs.Bools.{nested}
+use Rattle.text.proofs.Bools.{both, nested}
 use Rattle.text.proofs.Digits.{number-append, all-append, number-below}
 use Rattle.characters.specs.Trim.{trimOf}
 use Rattle.amount.specs.declared.amount.ParsedAmount.{ParsedAmount}
-use Rattle.amount.specs.declared.amount.ParsedAmount.the-variants.{Malformed}
+use Rattle.amount.specs.declared.amount.ParsedAmount.the-variants.{Empty, Malformed}
 use Rattle.amount.specs.declared.decimal.Walk.{Walk}
 use Rattle.amount.specs.declared.decimal.Walk.the-variants.{Start, Whole, Fraction, Bad}
 use Rattle.amount.specs.declared.numeric.ParsedPercentage.{ParsedPercentage}
@@ -25,7 +25,7 @@ use Rattle.amount.specs.Decimal.{empty, negative, unsigned, digitsOf, pa
 use Rattle.amount.specs.Amount.{hundredths, inRange, amountOf, parsedAmount}
 use Rattle.amount.specs.Percentage.{percentageOf, parsedPercentage}
 use Rattle.amount.specs.Answers.{amountAnswer, percentageAnswer}
-use Rattle.amount.specs.Walk.{cap, sat, wholeStep, fractionStep, startStep, run, ranged, padded, endedOf, finishOf, rated, rateOf}
+use Rattle.amount.specs.Walk.{cap, sat, wholeStep, fractionStep, startStep, run, ranged, padded, rated, counted, endOf, finishOf, rateOf}
 
 -- counts and sizes that stop
 sat-up : (K : ℕ) → sat (sat K + 1) ≡ sat (K + 1)
@@ -129,50 +129,51 @@ none-is : (s : List ℕ) → eqb (sat (length s)) 0 ≡ empty s
 none-is [] = refl
 none-is (x ∷ s) = ne-eqb (sat (suc (length s))) 0 (λ e. omega arith)
 
-turned : {A : Type 0} (p : Bool) (x y : A) → cond p x y ≡ cond (not p) y x
-turned true x y = refl
-turned false x y = refl
+-- the end of a walk, by what follows the whole part W: made of W and the fraction, where there is a digit, or b
+module _ {A : Type 0} (e b : A) (made : Bool → ℕ → ℕ → ℕ → A) where
+  parts : Bool → List ℕ → List ℕ → A
+  parts g W f = made g (sat (length (W ++ f))) (sat (length f)) (cap (number 0 (W ++ f)))
 
--- the end of a walk, by what follows the whole part W: read as `ends f` with the fraction f, or as `bad`
-module _ {A : Type 0} (fin : Walk → A) (bad : A) (fin-bad : fin Bad ≡ bad) (g : Bool) (W : List ℕ) (ends : List ℕ → A) where
-  by-rest :
-      ((f : List ℕ) → allDigits f ≡ true → fin (Fraction g (sat (length W + length f)) (sat (length f)) (cap (number (number 0 W) f))) ≡ ends f) →
-      fin (Whole g (sat (length W)) (cap (number 0 W))) ≡ ends [] →
-      (R : List ℕ) → fin (wholeEnd g (length W) (number 0 W) R) ≡ cond (pointed R && allDigits (pastPoint R)) (ends (pastPoint R)) bad
-  unfolding wholeEnd pointed pastPoint allDigits
-  by-rest fraction-is whole-is [] = whole-is
-  by-rest fraction-is whole-is (b ∷ f) = go (eqb b 0x2E) (allDigits f) refl
+  counted-is : (g : Bool) (W f : List ℕ) → counted b (sat (length W + length f)) (made g (sat (length W + length f)) (sat (length f)) (cap (number (number 0 W) f))) ≡ cond (not (empty (W ++ f))) (parts g W f) b
+  unfolding counted parts
+  counted-is g W f = rw (← length-append W f, ← number-append W 0 f, none-is (W ++ f)) (go (empty (W ++ f)) _)
     where
-      go : (p d : Bool) → allDigits f ≡ d → fin (cond p (cond d (Fraction g (sat (length W + length f)) (sat (length f)) (cap (number (number 0 W) f))) Bad) Bad) ≡ cond (p && d) (ends f) bad
-      go true true q = fraction-is f q
-      go true false q = fin-bad
-      go false d q = fin-bad
+      go : (p : Bool) (x : A) → cond p b x ≡ cond (not p) x b
+      go true x = refl
+      go false x = refl
 
--- an amount, by its whole part and its fraction
-amountEnds : Bool → List ℕ → List ℕ → Answer ℤ
-amountEnds g W f = cond (not (empty (W ++ f))) (cond (leb (length f) 2) (verdict (signed g (number 0 (W ++ take 2 (f ++ 48 ∷ 48 ∷ []))))) (says 4)) (says 3)
+  by-rest : (g : Bool) (W R : List ℕ) → endOf e b made (wholeEnd g (length W) (number 0 W) R) ≡ cond (pointed R && allDigits (pastPoint R)) (cond (not (empty (W ++ pastPoint R))) (parts g W (pastPoint R)) b) b
+  unfolding wholeEnd pointed pastPoint allDigits number
+  by-rest g W [] = rw (add-zero (length W)) at (counted-is g W [])
+  by-rest g W (c ∷ f) = go (eqb c 0x2E) (allDigits f)
+    where
+      go : (p d : Bool) → endOf e b made (cond p (cond d (Fraction g (sat (length W + length f)) (sat (length f)) (cap (number (number 0 W) f))) Bad) Bad) ≡ cond (p && d) (cond (not (empty (W ++ f))) (parts g W f) b) b
+      go true true = counted-is g W f
+      go true false = refl
+      go false d = refl
 
-ended-is : (g : Bool) (W f : List ℕ) → amountAnswer (endedOf g (sat (length W + length f)) (sat (length f)) (cap (number (number 0 W) f))) ≡ amountEnds g W f
-unfolding endedOf amountEnds
-ended-is g W f =
-    rw (number-append W 0 (take 2 (f ++ 48 ∷ 48 ∷ [])), ← length-append W f, none-is (W ++ f), ← padded-is g f (number 0 W), ← turned (empty (W ++ f)) (says 3) (amountAnswer (padded g (sat (length f)) (cap (number (number 0 W) f)))))
-    (under (empty (W ++ f)) _)
-  where
-    under : (p : Bool) (x : ParsedAmount) → amountAnswer (cond p Malformed x) ≡ cond p (says 3) (amountAnswer x)
-    under true x = refl
-    under false x = refl
+  -- the walk over all of a text ends as its grammar says
+  end-run : (t : List ℕ) → endOf e b made (run Start t) ≡ cond (empty t) e (cond (decimal t) (parts (negative t) (whole t) (fraction t)) b)
+  unfolding run decimal fraction whole
+  end-run [] = refl
+  end-run (c ∷ s) =
+      let t = c ∷ s in
+      let R = pastDigits (unsigned t) in
+      ap (endOf e b made) (run-start c s) ∙
+      by-rest (negative t) (whole t) R ∙
+      nested (pointed R && allDigits (pastPoint R)) (not (empty (whole t ++ pastPoint R))) _ _
 
 -- the walk over all of a text ends in its amount
 pub finish-run : (t : List ℕ) → amountAnswer (finishOf (run Start t)) ≡ amountOf t
-unfolding run amountOf decimal fraction hundredths amountEnds verdict number whole
-finish-run [] = refl
-finish-run (b ∷ s) =
-    let t = b ∷ s in
-    let g = negative t in
-    let R = pastDigits (unsigned t) in
-    ap (λ (w : Walk). amountAnswer (finishOf w)) (run-start b s) ∙
-    by-rest (λ (w : Walk). amountAnswer (finishOf w)) (says 3) refl g (whole t) (amountEnds g (whole t)) (λ f e. ended-is g (whole t) f) (rw (add-zero (length (whole t))) at (ended-is g (whole t) [])) R ∙
-    nested (pointed R && allDigits (pastPoint R)) (not (empty (whole t ++ pastPoint R))) _ _
+unfolding parts amountOf hundredths verdict
+finish-run t = rw (end-run Empty Malformed (λ g k p m. padded g p m) t) (go (empty t) (decimal t))
+  where
+    go : (e d : Bool) →
+        amountAnswer (cond e Empty (cond d (padded (negative t) (sat (length (fraction t))) (cap (number 0 (whole t ++ fraction t)))) Malformed)) ≡
+        cond e silent (cond d (cond (leb (length (fraction t)) 2) (verdict (hundredths t)) (says 4)) (says 3))
+    go true d = refl
+    go false true = rw (number-append (whole t) 0 (fraction t), number-append (whole t) 0 (take 2 (fraction t ++ 48 ∷ 48 ∷ []))) (padded-is (negative t) (fraction t) (number 0 (whole t)))
+    go false false = refl
 
 -- 18 digits at most write a number below 10^18
 below-18 : (s : List ℕ) → allDigits s ≡ true → length s ≤ 18 → number 0 s < 1000000000000000000
@@ -189,43 +190,35 @@ front-digits (b ∷ u) = go (digit b) refl (front-digits u)
     go true e r = rw e r
     go false e r = refl
 
--- a percentage, by its whole part and its fraction
-percentageEnds : Bool → List ℕ → List ℕ → Answer (ℤ × ℕ)
-percentageEnds g W f = cond (not (empty (W ++ f))) (cond (leb (length (W ++ f)) 18) (read (signed g (number 0 (W ++ f)), length f)) (says 7)) (says 6)
-
-rated-is : (g : Bool) (W f : List ℕ) → allDigits W ≡ true → allDigits f ≡ true → percentageAnswer (rated g (sat (length W + length f)) (sat (length f)) (cap (number (number 0 W) f))) ≡ percentageEnds g W f
-unfolding rated percentageEnds
-rated-is g W f e e′ =
-    let l = length-append W f in
-    rw (← number-append W 0 f, ← l, none-is (W ++ f)) (elim (decLt 18 (length (W ++ f))) [
-      | yes h ↦ rw (lt-ltb 18 (sat (length (W ++ f))) (omega arith), lt-leb (length (W ++ f)) 18 h) (under (empty (W ++ f)) _ _ refl)
+-- a percentage, by its digits and how many of them are its fraction
+rated-is :
+    (g : Bool) (s : List ℕ) (p : ℕ) → allDigits s ≡ true → p ≤ length s →
+    percentageAnswer (rated g (sat (length s)) (sat p) (cap (number 0 s))) ≡ cond (leb (length s) 18) (read (signed g (number 0 s), p)) (says 7)
+unfolding rated
+rated-is g s p e l =
+    elim (decLt 18 (length s)) [
+      | yes h ↦ rw (lt-ltb 18 (sat (length s)) (omega arith), lt-leb (length s) 18 h)
       | no h ↦
-          let b = below-18 (W ++ f) (all-append W f e e′) (omega arith) in
-          let c : cap (number 0 (W ++ f)) ≡ number 0 (W ++ f) = omega arith in
-          let q : sat (length f) ≡ length f = omega arith in
-          rw (c, q, le-ltb 18 (sat (length (W ++ f))) (omega arith), le-leb (length (W ++ f)) 18 (omega arith), lt-ltb (number 0 (W ++ f)) 1000000000000000000 b) (under (empty (W ++ f)) _ _ refl)
-    ])
-  where
-    under : (p : Bool) (x : ParsedPercentage) (y : Answer (ℤ × ℕ)) → percentageAnswer x ≡ y → percentageAnswer (cond p Rated.Malformed x) ≡ cond (not p) y (says 6)
-    under true x y q = refl
-    under false x y q = q
+          let b = below-18 s e (omega arith) in
+          let c : cap (number 0 s) ≡ number 0 s = omega arith in
+          let q : sat p ≡ p = omega arith in
+          rw (c, q, le-ltb 18 (sat (length s)) (omega arith), le-leb (length s) 18 (omega arith), lt-ltb (number 0 s) 1000000000000000000 b)
+    ]
+
+rated-or : (t : List ℕ) (d : Bool) → decimal t ≡ d → percentageAnswer (cond d (parts Rated.Malformed Rated.Malformed rated (negative t) (whole t) (fraction t)) Rated.Malformed) ≡ percentageOf t
+unfolding parts percentageOf decimal whole fraction
+rated-or t true e =
+    let R = pastDigits (unsigned t) in
+    let b = both (pointed R && allDigits (pastPoint R)) (not (empty (whole t ++ pastPoint R))) e in
+    let f = both (pointed R) (allDigits (pastPoint R)) (b .0) .1 in
+    rw e (rated-is (negative t) (whole t ++ fraction t) (length (fraction t)) (all-append (whole t) (fraction t) (front-digits (unsigned t)) f) (omega (arith, length-append (whole t) (fraction t))))
+rated-or t false e = rw e
 
 -- the walk over all of a text ends in its percentage
-rate-some : (b : ℕ) (s : List ℕ) → percentageAnswer (rateOf (run Start (b ∷ s))) ≡ percentageOf (b ∷ s)
-unfolding percentageOf decimal fraction percentageEnds whole allDigits number
-rate-some b s =
-    let t = b ∷ s in
-    let g = negative t in
-    let W = digitsOf (unsigned t) in
-    let R = pastDigits (unsigned t) in
-    ap (λ (w : Walk). percentageAnswer (rateOf w)) (run-start b s) ∙
-    by-rest (λ (w : Walk). percentageAnswer (rateOf w)) (says 6) refl g W (percentageEnds g W) (λ f e. rated-is g W f (front-digits (unsigned t)) e) (rw (add-zero (length W)) at (rated-is g W [] (front-digits (unsigned t)) refl)) R ∙
-    nested (pointed R && allDigits (pastPoint R)) (not (empty (W ++ pastPoint R))) _ _
-
 pub rate-run : (t : List ℕ) → percentageAnswer (rateOf (run Start t)) ≡ percentageOf t
 unfolding run percentageOf decimal fraction whole unsigned pastDigits digitsOf pastPoint pointed allDigits
 rate-run [] = refl
-rate-run (b ∷ s) = rate-some b s
+rate-run (b ∷ s) = let t = b ∷ s in ap percentageAnswer (end-run Rated.Malformed Rated.Malformed rated t) ∙ rated-or t (decimal t) refl
 
 -- the code of `parse_trimmed`, in its own terms: w is the walk over s, r its end
 module _ (s : List ℕ) (w : Walk) (ew : w ≡ run Start s) where

@@ -56,27 +56,27 @@ push m = cap (10 * m + (48 - 48))
 unfoldable pub padded : Bool → ℕ → ℕ → ParsedAmount
 padded g p m = cond (ltb 2 p) TooManyDecimals (cond (eqb p 2) (ranged g m) (cond (eqb p 1) (ranged g (push m)) (ranged g (push (push m)))))
 
--- a walk that met no byte out of place ends with a digit at least
-unfoldable pub endedOf : Bool → ℕ → ℕ → ℕ → ParsedAmount
-endedOf g k p m = cond (eqb k 0) Malformed (padded g p m)
-
--- the end of a walk, as an amount
-abbrev pub finishOf : Walk → ParsedAmount
-finishOf Start = Empty
-finishOf (Whole g k m) = endedOf g k 0 m
-finishOf (Fraction g k p m) = endedOf g k p m
-finishOf Bad = Malformed
-
--- the same for a percentage, of at most 18 digits
+-- a percentage of at most 18 digits: sign, digits, decimals, size
 unfoldable pub rated : Bool → ℕ → ℕ → ℕ → ParsedPercentage
 rated g k p m =
-    cond (eqb k 0) Rated.Malformed
-    (cond (ltb 18 k) Rated.TooPrecise
-    (cond (ltb m 1000000000000000000) (Rated.Percentage (record { unscaled = signed g m; scale = p })) Rated.TooPrecise))
+    cond (ltb 18 k) Rated.TooPrecise
+    (cond (ltb m 1000000000000000000) (Rated.Percentage (record { unscaled = signed g m; scale = p })) Rated.TooPrecise)
 
--- the end of a walk, as a percentage
+-- what is made of a decimal, which has a digit at least, or b
+unfoldable pub counted : {A : Type 0} → A → ℕ → A → A
+counted b k a = cond (eqb k 0) b a
+
+-- the end of a walk: e of no bytes, b of no decimal, else made of sign, digits, decimals and size
+abbrev pub endOf : {A : Type 0} → A → A → (Bool → ℕ → ℕ → ℕ → A) → Walk → A
+endOf e b made Start = e
+endOf e b made (Whole g k m) = counted b k (made g k 0 m)
+endOf e b made (Fraction g k p m) = counted b k (made g k p m)
+endOf e b made Bad = b
+
+-- as an amount
+abbrev pub finishOf : Walk → ParsedAmount
+finishOf w = endOf Empty Malformed (λ g k p m. padded g p m) w
+
+-- and as a percentage
 abbrev pub rateOf : Walk → ParsedPercentage
-rateOf Start = Rated.Malformed
-rateOf (Whole g k m) = rated g k 0 m
-rateOf (Fraction g k p m) = rated g k p m
-rateOf Bad = Rated.Malformed
+rateOf w = endOf Rated.Malformed Rated.Malformed rated w

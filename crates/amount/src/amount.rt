@@ -3,7 +3,7 @@ ghost use mathlib.Core.Path.{_≡_};
 ghost use lib.IntN.{pos};
 ghost use Rattle.amount.specs.Amount.{amountOf, parsedAmount};
 ghost use Rattle.amount.specs.Answers.{amountAnswer};
-ghost use Rattle.amount.specs.Walk.{ranged, padded, endedOf, finishOf};
+ghost use Rattle.amount.specs.Walk.{ranged, padded, counted, finishOf};
 use crate::decimal::Walk;
 use crate::decimal::push_digit;
 use crate::decimal::walk_on;
@@ -66,7 +66,7 @@ fn pad(negative: bool, decimals: u32, size: u64) -> ParsedAmount
 
 // The end of a walk that met no byte out of place: there must have been a digit.
 fn ended(negative: bool, digits: u32, decimals: u32, size: u64) -> ParsedAmount
-    ensures { λ r. ⌜ r ≡ endedOf negative digits decimals size ⌝ }
+    ensures { λ r. ⌜ r ≡ counted ParsedAmount.Malformed digits (padded negative decimals size) ⌝ }
 {
     let none = digits == 0;
     if none {

@@ -4,7 +4,7 @@ ghost use Prim.Native.Nat.{_<_};
 ghost use Rattle.amount.specs.Decimal.{signed};
 ghost use Rattle.amount.specs.Percentage.{percentageOf, parsedPercentage};
 ghost use Rattle.amount.specs.Answers.{percentageAnswer};
-ghost use Rattle.amount.specs.Walk.{rated, rateOf};
+ghost use Rattle.amount.specs.Walk.{rated, counted, rateOf};
 use crate::decimal::Walk;
 use crate::decimal::walk_on;
 use crate::signed::negated;
@@ -36,7 +36,7 @@ fn with_sign(negative: bool, size: u64) -> i64
 
 // The end of a walk that met no byte out of place: one digit at least and 18 at most.
 fn ended(negative: bool, digits: u32, decimals: u32, size: u64) -> ParsedPercentage
-    ensures { λ r. ⌜ r ≡ rated negative digits decimals size ⌝ }
+    ensures { λ r. ⌜ r ≡ counted ParsedPercentage.Malformed digits (rated negative digits decimals size) ⌝ }
 {
     let none = digits == 0;
     if none {

@@ -1,3 +1,2 @@
-pub mod Parameters
 pub mod Symbols
 pub mod Lines

@@ -10,15 +10,17 @@ use native.Mathlib.Decide.{decLt}
 use borrow.Author.Tests.{le-leb}
 use lib.Dec.{ltb, eqb}
 use lib.ListN.{length, getD, take, drop, set, length-drop, length-set, length-map, drop-of-length-le, List·getD-eq-default}
-use lib.Seq.{drop-cons, drop-drop, sets-eq, length-sets, take-append-seam}
+use lib.Seq.{drop-cons, drop-drop, take-append-seam}
 use Rattle.text.specs.Range.{within}
-use Rattle.text.specs.Span.{partOf}
+use Rattle.text.specs.Span.{partOf, clipped}
 use Rattle.text.proofs.Bools.{both, not-both}
 use Rattle.text.proofs.Spans.{rest}
 use Rattle.text.proofs.Ranges.{within-range}
+use Rattle.names.specs.Put.{put}
+use Rattle.names.proofs.Puts.{length-put, put-eq}
 use Rattle.cases.specs.declared.Symbol.{Symbol}
 use Rattle.cases.specs.declared.Symbol.the-variants.{Byte, Hole, Bad}
-use Rattle.cases.specs.Symbols.{nibble, escaped, symbol, size, symbols, weight, total, holesOf, byteOf, filled, put, Filled}
+use Rattle.cases.specs.Symbols.{nibble, escaped, symbol, size, symbols, weight, total, holesOf, byteOf, filled, Filled}
 
 -- a byte that passes a test which 0 fails stands in the list
 inside : (f : ℕ → Bool) (s : List ℕ) (k : ℕ) → f 0 ≡ false → f (getD s k 0) ≡ true → k < length s
@@ -143,11 +145,11 @@ symbols-fewer (suc k) (b ∷ s) = omega (arith, symbols-fewer k s)
 
 -- with room the bytes that were put are read back
 pub read-back : (v : ℕ) (s l l′ : List ℕ) (r : ℕ) → Filled v s l l′ r → length s ≤ length l → partOf l′ 0 r ≡ filled v s
-unfolding put filled partOf
+unfolding filled partOf clipped
 read-back v s l l′ r f h =
     let m : length (filled v s) ≤ length s = omega (arith, length-map (symbols 0 s) (byteOf v), symbols-fewer 0 s) in
-    let n : length l′ ≡ length l = ap length (f .now) ∙ length-sets l 0 (filled v s) in
-    let e : l′ ≡ filled v s ++ drop (length (filled v s)) l = f .now ∙ sets-eq (filled v s) l 0 (omega arith) ∙ rw zero-add in
+    let n : length l′ ≡ length l = ap length (f .now) ∙ length-put l 0 (filled v s) in
+    let e : l′ ≡ filled v s ++ drop (length (filled v s)) l = f .now ∙ put-eq l 0 (filled v s) (omega arith) ∙ rw zero-add in
     rw (le-leb (0 + r) (length l′) (omega (arith, f .many)), f .many, e) (take-append-seam (filled v s) _)
 
 -- the part `&s[i..]`, as a callee is handed it

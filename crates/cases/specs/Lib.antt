@@ -1,3 +1,2 @@
-pub mod Parameter
 pub mod Symbols
 pub mod Numbers

@@ -5,8 +5,8 @@ use mathlib.Core.List.{List, [], _∷_, map}
 use Prim.Native.Nat.{ℕ, zero, suc, pred, _+_, _*_, _-_, min}
 use lib.Dec.{ltb, eqb}
 use lib.ListN.{length, getD}
-use lib.Seq.{sets}
 use Rattle.text.specs.Range.{within}
+use Rattle.names.specs.Put.{put}
 use Rattle.cases.specs.declared.Symbol.{Symbol}
 use Rattle.cases.specs.declared.Symbol.the-variants.{Byte, Hole, Bad}
 
@@ -62,10 +62,6 @@ byteOf v Bad = 0
 -- the bytes of a text, v for the hole
 unfoldable pub filled : ℕ → List ℕ → List ℕ
 filled v s = map (byteOf v) (symbols 0 s)
-
--- bytes put into a list from a place on, each where there is room for it
-unfoldable pub put : List ℕ → ℕ → List ℕ → List ℕ
-put l at vs = sets l at vs
 
 -- the bytes of a text were put at the front of l, which gives l′, and r is their number
 pub record Filled (v : ℕ) (s l l′ : List ℕ) (r : ℕ) : Type 0 where

@@ -7,19 +7,10 @@ mod listing;
 
 pub use listing::numbers;
 ghost use mathlib.Core.Path.{_≡_};
-ghost use mathlib.Core.Bool.{true};
-ghost use Prim.Native.Nat.{_+_, _*_, _-_, _<_, min};
+ghost use Prim.Native.Nat.{_+_, _<_, min};
 ghost use lib.ListN.{length, getD, drop, set};
-ghost use Rattle.text.specs.Digits.{digit};
-ghost use Rattle.text.specs.Range.{within};
-ghost use Rattle.cases.specs.Parameter.{fitted, parameterOf};
 ghost use Rattle.cases.specs.Symbols.{nibble, escaped, symbol, size, weight, byteOf, holesOf, Filled};
-
-// A case's number, or that it is none.
-pub enum Parameter {
-    Number(u32),
-    Unfit,
-}
+use text::is_within;
 
 // What stands at the front of a text: a byte and how many bytes write it, the hole, or neither.
 enum Symbol {
@@ -28,70 +19,18 @@ enum Symbol {
     Bad,
 }
 
-// The number n with the digit b behind it. At most nine digits stand before it, so that it fits.
-fn push_digit(n: u64, b: u8) -> u64
-    requires { ⌜ n < 1000000000 ⌝ }
-    requires { ⌜ digit b ≡ true ⌝ }
-    ensures { λ r. ⌜ r ≡ 10 * n + (b - 48) ⌝ }
-{
-    n * 10 + (b - b'0') as u64
-}
-
-// A number of 32 bits.
-fn fitting(n: u64) -> Parameter
-    ensures { λ r. ⌜ r ≡ fitted n ⌝ }
-{
-    if n <= 4294967295 {
-        return Parameter::Number(n as u32);
-    }
-    Parameter::Unfit
-}
-
-// The number that one to ten digits write.
-pub fn parameter_of(s: &[u8]) -> Parameter
-    ensures { λ r. ⌜ r ≡ parameterOf (now (s .entry)) ⌝ }
-{
-    if s.len() == 0 {
-        return Parameter::Unfit;
-    }
-    if 10 < s.len() {
-        return Parameter::Unfit;
-    }
-    let mut n: u64 = 0;
-    let mut i = 0;
-    while i < s.len() {
-        let b = s[i];
-        if text::is_digit(b) {
-            n = push_digit(n, b);
-            i += 1;
-        } else {
-            return Parameter::Unfit;
-        }
-    }
-    fitting(n)
-}
-
-fn is_within(b: u8, first: u8, last: u8) -> bool
-    ensures { λ r. ⌜ r ≡ within b first last ⌝ }
-{
-    let reached = first <= b;
-    if reached {
-        return b <= last;
-    }
-    false
-}
-
 // The value of a hex digit, and 16 for another byte.
 fn nibble_of(b: u8) -> u8
     ensures { λ r. ⌜ r ≡ nibble b ⌝ }
 {
-    if is_within(b, b'0', b'9') {
+    let c = b as u32;
+    if is_within(c, 0x30, 0x39) {
         return b - b'0';
     }
-    if is_within(b, b'a', b'f') {
+    if is_within(c, 0x61, 0x66) {
         return b - b'a' + 10;
     }
-    if is_within(b, b'A', b'F') {
+    if is_within(c, 0x41, 0x46) {
         return b - b'A' + 10;
     }
     16
@@ -131,7 +70,7 @@ fn symbol_of(s: &[u8]) -> Symbol
     if escape {
         return escape_of(byte_at(s, 1), byte_at(s, 2));
     }
-    if is_within(b, b' ', b'~') {
+    if is_within(b as u32, 0x20, 0x7E) {
         return Symbol::Byte(b, 1);
     }
     Symbol::Bad

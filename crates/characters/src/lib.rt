@@ -2,7 +2,6 @@
 //
 // Every function takes all bytes and all numbers. No public function has a `requires`, and the
 // crate assumes nothing of its own.
-mod range;
 mod trimming;
 mod utf8;
 mod white_space;

@@ -70,11 +70,7 @@ fn trim_each(s: &[u8], mode: u32) -> Span
 fn is_graphic(b: u8) -> bool
     ensures { λ r. ⌜ r ≡ graphic b ⌝ }
 {
-    let reached = 0x21 <= b;
-    if reached {
-        return b <= 0x7F;
-    }
-    false
+    text::is_within(b as u32, 0x21, 0x7F)
 }
 
 // The place of what is left of s after trimming in a mode, and 0, 0 where nothing is. Bytes that

@@ -5,7 +5,7 @@ ghost use Prim.Native.Nat.{_+_, _*_, _%_, _<_};
 ghost use lib.ListN.{length, getD, drop};
 ghost use Rattle.characters.specs.Characters.{isScalar, tail, boundary, scalar, two, three, four, charOf, front, size, good, ascii, utf8};
 ghost use Rattle.characters.specs.Utf8Walk.{plain, step};
-use crate::range::is_within;
+use text::is_within;
 
 // What stands at the front of bytes: a character's code point and the number of its bytes, or
 // what is no UTF-8.

@@ -1,8 +1,8 @@
 // White space: Unicode's White_Space in mode 0, space and tab in mode 1 (and any other number).
 ghost use mathlib.Core.Path.{_≡_};
 ghost use Rattle.characters.specs.WhiteSpace.{whiteSpace, blank, white, trims};
-use crate::range::is_within;
 use crate::utf8::Char;
+use text::is_within;
 
 // Whether c has Unicode's property White_Space. The letters, digits and signs of ASCII go first,
 // for most characters are one of them.

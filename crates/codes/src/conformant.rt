@@ -7,7 +7,7 @@ ghost use Rattle.codes.specs.Conformant.{begins, contains, conformant};
 fn begins_at(s: &[u8], i: usize, needle: &[u8]) -> bool
     ensures { λ r. ⌜ r ≡ begins (now (needle .entry)) (drop i (now (s .entry))) ⌝ }
 {
-    text::same(text::part(s, i, needle.len()), needle)
+    text::same(text::clip(s, i, needle.len()), needle)
 }
 
 // Whether needle stands anywhere in s.

@@ -1,3 +1,3 @@
 pub mod Months
 pub mod Parts
-pub mod Walking
+pub mod Dates

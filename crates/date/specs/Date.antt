@@ -1,7 +1,7 @@
 -- Dates CCYYMMDD (UN/CEFACT code list 2379, code 102) in the Gregorian calendar (ISO 8601).
 use mathlib.Core.Bool.{Bool, cond, not, _&&_, _||_}
 use mathlib.Core.List.{List}
-use Prim.Native.Nat.{ℕ, _%_}
+use Prim.Native.Nat.{ℕ, _/_, _%_}
 use lib.Dec.{eqb}
 use lib.ListN.{length, take, drop}
 use Rattle.text.specs.Answer.{Answer, read, says}
@@ -40,6 +40,10 @@ eightDigits t = eqb (length t) 8 && allDigits t
 -- the date that a text writes, as the number CCYYMMDD; 12 not CCYYMMDD; 13 no such day (document 01, Messages)
 unfoldable pub dateOf : List ℕ → Answer ℕ
 dateOf t = cond (eightDigits t) (cond (isDay (year t) (month t) (day t)) (read (number 0 t)) (says 13)) (says 12)
+
+-- the date whose number CCYYMMDD is n
+unfoldable pub numbered : ℕ → Answer ℕ
+numbered n = cond (isDay (n / 10000) (n / 100 % 100) (n % 100)) (read n) (says 13)
 
 -- the date of a text that is trimmed first (document 01, the mode)
 unfoldable pub parsedDate : ℕ → List ℕ → Answer ℕ

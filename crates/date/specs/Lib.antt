@@ -1,3 +1,2 @@
 pub mod Date
-pub mod Walk
 pub mod Answers

@@ -3,12 +3,10 @@
 // Every function takes all bytes and all numbers. No public function has a `requires`, and the
 // crate assumes nothing of its own.
 ghost use mathlib.Core.Path.{_≡_};
-ghost use mathlib.Core.Bool.{true, cond};
-ghost use Prim.Native.Nat.{_+_, _*_, _-_, _<_};
-ghost use Rattle.text.specs.Digits.{digit};
-ghost use Rattle.date.specs.Date.{leap, days, isDay, dateOf, parsedDate};
-ghost use Rattle.date.specs.Walk.{numbered};
+ghost use mathlib.Core.Bool.{cond};
+ghost use Rattle.date.specs.Date.{leap, days, isDay, numbered, dateOf, parsedDate};
 ghost use Rattle.date.specs.Answers.{dateAnswer};
+use text::Numeral;
 
 // What a text says of a date: the number CCYYMMDD, that it is not CCYYMMDD, or that there is no
 // such day.
@@ -71,15 +69,6 @@ fn is_day(year: u32, month: u32, day: u32) -> bool
     false
 }
 
-// The number n with the digit b behind it. At most seven digits stand before it, so that it fits.
-fn push_digit(n: u32, b: u8) -> u32
-    requires { ⌜ n < 10000000 ⌝ }
-    requires { ⌜ digit b ≡ true ⌝ }
-    ensures { λ r. ⌜ r ≡ 10 * n + (b - 48) ⌝ }
-{
-    n * 10 + (b - b'0') as u32
-}
-
 // The date whose number CCYYMMDD is n.
 fn from_number(n: u32) -> ParsedDate
     ensures { λ r. ⌜ dateAnswer r ≡ numbered n ⌝ }
@@ -90,26 +79,17 @@ fn from_number(n: u32) -> ParsedDate
     ParsedDate::NotACalendarDay
 }
 
-// The date that the whole of t writes, for a text that is trimmed already. One pass gathers the
-// number, which is then parted.
+// The date that the whole of t writes, for a text that is trimmed already: its number, parted.
 pub fn parse_trimmed(t: &[u8]) -> ParsedDate
     ensures { λ r. ⌜ dateAnswer r ≡ dateOf (now (t .entry)) ⌝ }
 {
     if t.len() != 8 {
         return ParsedDate::Malformed;
     }
-    let mut n: u32 = 0;
-    let mut i = 0;
-    while i < t.len() {
-        let b = t[i];
-        if text::is_digit(b) {
-            n = push_digit(n, b);
-            i += 1;
-        } else {
-            return ParsedDate::Malformed;
-        }
+    match text::numeral_of(t, 8) {
+        Numeral::Number(n) => from_number(n),
+        Numeral::Unfit => ParsedDate::Malformed,
     }
-    from_number(n)
 }
 
 // The date that s writes after it is trimmed in a mode.

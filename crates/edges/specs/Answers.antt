@@ -13,6 +13,7 @@ use Rattle.text.specs.declared.span.Span.{Span}
 use Rattle.text.specs.Answer.{Answer}
 use Rattle.text.specs.Digits.{digit}
 use Rattle.text.specs.Order.{equal, order}
+use Rattle.text.specs.Place.{meant}
 use Rattle.text.specs.Span.{partOf}
 use Rattle.characters.specs.Trim.{trimmed}
 use Rattle.characters.specs.Characters.{utf8}
@@ -27,7 +28,6 @@ use Rattle.codes.specs.Rules.{inForce}
 use Rattle.codes.specs.Vat.{vat}
 use Rattle.codes.specs.VatPoint.{vatPointDateCodeOf}
 use Rattle.codes.specs.declared.rules.Rule.the-variants.{Br12, Br13, Br14, Br15, Br31, Br32, Br36, Br37, Br45, Br46, Br47, Br55}
-use Rattle.edges.specs.Names.{named}
 use Rattle.edges.specs.declared.answers.Numbers.{Numbers}
 use Rattle.edges.specs.declared.answers.NamedRule.{NamedRule}
 use Rattle.edges.specs.declared.answers.NamedRule.the-variants.{Named, Missing}
@@ -94,7 +94,7 @@ rules =
     ("36", Named Br36) ∷ ("37", Named Br37) ∷ ("45", Named Br45) ∷ ("46", Named Br46) ∷ ("47", Named Br47) ∷ ("55", Named Br55) ∷ []
 
 unfoldable pub ruleOf : List ℕ → NamedRule
-ruleOf s = named Missing rules s
+ruleOf s = meant Missing rules s
 
 -- whether a rule is in force, and no number where there is no such rule
 abbrev pub ruleNumbers : ℕ → NamedRule → List ℤ

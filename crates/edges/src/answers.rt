@@ -242,43 +242,22 @@ fn of_boolean(p: ParsedBoolean) -> Numbers
 fn rule_of(s: &[u8]) -> NamedRule
     ensures { λ r. ⌜ r ≡ ruleOf (now (s .entry)) ⌝ }
 {
-    if text::same(s, b"12") {
-        return NamedRule::Named(Rule::Br12);
+    let names = b"\x0212\x0213\x0214\x0215\x0231\x0232\x0236\x0237\x0245\x0246\x0247\x0255";
+    match text::place_of(names, s) {
+        0 => NamedRule::Named(Rule::Br12),
+        1 => NamedRule::Named(Rule::Br13),
+        2 => NamedRule::Named(Rule::Br14),
+        3 => NamedRule::Named(Rule::Br15),
+        4 => NamedRule::Named(Rule::Br31),
+        5 => NamedRule::Named(Rule::Br32),
+        6 => NamedRule::Named(Rule::Br36),
+        7 => NamedRule::Named(Rule::Br37),
+        8 => NamedRule::Named(Rule::Br45),
+        9 => NamedRule::Named(Rule::Br46),
+        10 => NamedRule::Named(Rule::Br47),
+        11 => NamedRule::Named(Rule::Br55),
+        _ => NamedRule::Missing,
     }
-    if text::same(s, b"13") {
-        return NamedRule::Named(Rule::Br13);
-    }
-    if text::same(s, b"14") {
-        return NamedRule::Named(Rule::Br14);
-    }
-    if text::same(s, b"15") {
-        return NamedRule::Named(Rule::Br15);
-    }
-    if text::same(s, b"31") {
-        return NamedRule::Named(Rule::Br31);
-    }
-    if text::same(s, b"32") {
-        return NamedRule::Named(Rule::Br32);
-    }
-    if text::same(s, b"36") {
-        return NamedRule::Named(Rule::Br36);
-    }
-    if text::same(s, b"37") {
-        return NamedRule::Named(Rule::Br37);
-    }
-    if text::same(s, b"45") {
-        return NamedRule::Named(Rule::Br45);
-    }
-    if text::same(s, b"46") {
-        return NamedRule::Named(Rule::Br46);
-    }
-    if text::same(s, b"47") {
-        return NamedRule::Named(Rule::Br47);
-    }
-    if text::same(s, b"55") {
-        return NamedRule::Named(Rule::Br55);
-    }
-    NamedRule::Missing
 }
 
 fn of_rule(rules: u32, named: NamedRule) -> Numbers

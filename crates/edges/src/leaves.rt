@@ -1,6 +1,7 @@
 // The leaf functions that cases are run on, by name.
 ghost use mathlib.Core.Path.{_≡_};
-ghost use Rattle.edges.specs.Names.{leafOf, codeLeafOf};
+ghost use Rattle.text.specs.Place.{meant};
+ghost use Rattle.edges.specs.Names.{leaves};
 
 // The leaf functions that cases are run on.
 pub(crate) enum Leaf {
@@ -28,64 +29,43 @@ pub(crate) enum NamedLeaf {
     Unknown,
 }
 
-// The leaf of a name that is none of the texts', amounts' and dates'.
-fn code_leaf_of(name: &[u8]) -> NamedLeaf
-    ensures { λ r. ⌜ r ≡ codeLeafOf (now (name .entry)) ⌝ }
-{
-    if text::same(name, b"currency") {
-        return NamedLeaf::Named(Leaf::Currency);
-    }
-    if text::same(name, b"vat") {
-        return NamedLeaf::Named(Leaf::Vat);
-    }
-    if text::same(name, b"conformant") {
-        return NamedLeaf::Named(Leaf::Conformant);
-    }
-    if text::same(name, b"format") {
-        return NamedLeaf::Named(Leaf::Format);
-    }
-    if text::same(name, b"point") {
-        return NamedLeaf::Named(Leaf::Point);
-    }
-    if text::same(name, b"boolean") {
-        return NamedLeaf::Named(Leaf::Boolean);
-    }
-    if text::same(name, b"rule") {
-        return NamedLeaf::Named(Leaf::Rule);
-    }
-    NamedLeaf::Unknown
-}
-
 // The leaf of a name.
 pub(crate) fn leaf_of(name: &[u8]) -> NamedLeaf
-    ensures { λ r. ⌜ r ≡ leafOf (now (name .entry)) ⌝ }
+    ensures { λ r. ⌜ r ≡ meant NamedLeaf.Unknown leaves (now (name .entry)) ⌝ }
 {
-    if text::same(name, b"utf8") {
-        return NamedLeaf::Named(Leaf::Utf8);
+    let names = b"\x04utf8\
+        \x04trim\
+        \x05digit\
+        \x04same\
+        \x07compare\
+        \x04part\
+        \x06amount\
+        \x0apercentage\
+        \x04date\
+        \x08currency\
+        \x03vat\
+        \x0aconformant\
+        \x06format\
+        \x05point\
+        \x07boolean\
+        \x04rule";
+    match text::place_of(names, name) {
+        0 => NamedLeaf::Named(Leaf::Utf8),
+        1 => NamedLeaf::Named(Leaf::Trim),
+        2 => NamedLeaf::Named(Leaf::Digit),
+        3 => NamedLeaf::Named(Leaf::Same),
+        4 => NamedLeaf::Named(Leaf::Compare),
+        5 => NamedLeaf::Named(Leaf::Part),
+        6 => NamedLeaf::Named(Leaf::Amount),
+        7 => NamedLeaf::Named(Leaf::Percentage),
+        8 => NamedLeaf::Named(Leaf::Date),
+        9 => NamedLeaf::Named(Leaf::Currency),
+        10 => NamedLeaf::Named(Leaf::Vat),
+        11 => NamedLeaf::Named(Leaf::Conformant),
+        12 => NamedLeaf::Named(Leaf::Format),
+        13 => NamedLeaf::Named(Leaf::Point),
+        14 => NamedLeaf::Named(Leaf::Boolean),
+        15 => NamedLeaf::Named(Leaf::Rule),
+        _ => NamedLeaf::Unknown,
     }
-    if text::same(name, b"trim") {
-        return NamedLeaf::Named(Leaf::Trim);
-    }
-    if text::same(name, b"digit") {
-        return NamedLeaf::Named(Leaf::Digit);
-    }
-    if text::same(name, b"same") {
-        return NamedLeaf::Named(Leaf::Same);
-    }
-    if text::same(name, b"compare") {
-        return NamedLeaf::Named(Leaf::Compare);
-    }
-    if text::same(name, b"part") {
-        return NamedLeaf::Named(Leaf::Part);
-    }
-    if text::same(name, b"amount") {
-        return NamedLeaf::Named(Leaf::Amount);
-    }
-    if text::same(name, b"percentage") {
-        return NamedLeaf::Named(Leaf::Percentage);
-    }
-    if text::same(name, b"date") {
-        return NamedLeaf::Named(Leaf::Date);
-    }
-    code_leaf_of(name)
 }

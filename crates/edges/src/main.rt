@@ -18,9 +18,9 @@ use crate::answers::same_numbers;
 use crate::leaves::Leaf;
 use crate::leaves::NamedLeaf;
 use crate::leaves::leaf_of;
-use cases::Parameter;
 use cases::holes;
-use cases::parameter_of;
+use text::Numeral;
+use text::numeral_of;
 
 const STDIN: i32 = 0;
 
@@ -107,11 +107,11 @@ fn print_case(line: &[u8], leaf: Leaf, number: u32, s: &[u8], space: &mut [u8]) 
 }
 
 // A line of three parts.
-fn print_parts(line: &[u8], name: NamedLeaf, number: Parameter, s: &[u8], space: &mut [u8]) {
+fn print_parts(line: &[u8], name: NamedLeaf, number: Numeral, s: &[u8], space: &mut [u8]) {
     match name {
         NamedLeaf::Named(leaf) => match number {
-            Parameter::Number(n) => print_case(line, leaf, n, s, space),
-            Parameter::Unfit => print_unfit(line),
+            Numeral::Number(n) => print_case(line, leaf, n, s, space),
+            Numeral::Unfit => print_unfit(line),
         },
         NamedLeaf::Unknown => print_unfit(line),
     }
@@ -134,7 +134,7 @@ fn print_line(line: &[u8], space: &mut [u8]) {
     print_parts(
         line,
         leaf_of(&line[0..a]),
-        parameter_of(&line[after..b]),
+        numeral_of(&line[after..b], 10),
         &line[last..],
         space,
     );

@@ -10,9 +10,9 @@ use lib.ListN.{length}
 use Rattle.text.specs.Digits.{number}
 use Rattle.text.specs.Span.{cut}
 use Rattle.text.proofs.Bools.{both}
-use Rattle.inputs.specs.declared.fields.Fields.{Fields}
-use Rattle.inputs.specs.declared.fields.Line.{Line}
-use Rattle.inputs.specs.declared.fields.Line.the-variants.{Unfit, Fit}
+use Rattle.inputs.specs.declared.input_line.Fields.{Fields}
+use Rattle.inputs.specs.declared.input_line.Line.{Line}
+use Rattle.inputs.specs.declared.input_line.Line.the-variants.{Unfit, Fit}
 use Rattle.inputs.specs.Line.{Content, orNone, lineOf}
 use Rattle.inputs.specs.Given.{Given, numbersOf, recordFile, inputOf}
 use Rattle.inputs.specs.Places.{givenBy, Parsed, Decided}

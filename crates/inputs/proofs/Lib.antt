@@ -1,6 +1,5 @@
 pub mod Bytes
 pub mod Numbers
-pub mod Numerals
 pub mod Parting
 pub mod Lines
 pub mod Spellings

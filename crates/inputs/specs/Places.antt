@@ -14,10 +14,8 @@ use Rattle.names.specs.Put.{put}
 use Rattle.inputs.specs.Line.{Content, numeral, filled, longest, lineOf}
 use Rattle.inputs.specs.Given.{Given, numbersOf, recordFile, inputOf}
 use Rattle.inputs.specs.Spelling.{mark}
-use Rattle.inputs.specs.declared.fields.Line.{Line}
-use Rattle.inputs.specs.declared.fields.Line.the-variants.{Unfit, Fit}
-use Rattle.inputs.specs.declared.numeral.Numeral as Code
-use Rattle.inputs.specs.declared.numeral.Numeral.the-variants as Numeral
+use Rattle.inputs.specs.declared.input_line.Line.{Line}
+use Rattle.inputs.specs.declared.input_line.Line.the-variants.{Unfit, Fit}
 
 -- what an answer says of an input
 abbrev pub lineAt : List ℕ → Line → Option Content
@@ -39,10 +37,6 @@ pub record Listed (records l l′ : List ℕ) (r : ℕ) : Type 0 where
 -- a space stands at i
 unfoldable pub spaceAt : List ℕ → ℕ → Bool
 spaceAt s i = eqb (getD s i 0) 0x20
-
--- the number of a field
-unfoldable pub numeralOf : List ℕ → Code.Numeral
-numeralOf f = cond (numeral f) (Numeral.Number (number 0 f)) Numeral.Unfit
 
 -- the bytes before the first space or line feed
 unfoldable pub word : List ℕ → List ℕ

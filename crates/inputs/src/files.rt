@@ -3,8 +3,8 @@ ghost use mathlib.Core.Path.{_≡_};
 ghost use lib.ListN.{set};
 ghost use Rattle.inputs.specs.Given.{littleEndian};
 ghost use Rattle.inputs.specs.Places.{Listed, Decided};
-use crate::fields::Line;
-use crate::fields::parse_line;
+use crate::input_line::Line;
+use crate::input_line::parse_line;
 
 // The most bytes of a record file, which are 256 records, and of a text.
 const RECORDS: usize = 6144;

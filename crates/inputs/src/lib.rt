@@ -4,14 +4,13 @@
 //
 // Every function takes all bytes and all places. No public function has a `requires`, and the crate
 // assumes nothing of its own.
-mod fields;
 mod files;
-mod numeral;
+mod input_line;
 mod parts;
 
-pub use fields::Fields;
-pub use fields::Line;
-pub use fields::parse_line;
 pub use files::input_of;
 pub use files::numbers_of;
+pub use input_line::Fields;
+pub use input_line::Line;
+pub use input_line::parse_line;
 pub use parts::bytes_at;

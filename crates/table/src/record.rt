@@ -102,7 +102,7 @@ pub fn joined_text<'a, 'b>(table: &'b [u32], text: &'a [u8], r: usize) -> &'a [u
 pub fn is_named(table: &[u32], text: &[u8], want: &[u8], r: usize) -> bool
     ensures { λ b. ⌜ b ≡ named (now (table .entry)) (now (text .entry)) (now (want .entry)) r ⌝ }
 {
-    text::same(name(table, text, r), want)
+    text::same_words(name(table, text, r), want)
 }
 
 // Whether record j is of a kind and names the earlier record i as its parent.

@@ -31,7 +31,7 @@ equal-refl [] = refl
 equal-refl (x ∷ s) = rw (eq-eqb x x refl) (equal-refl s)
 
 -- texts that differ in anything
-differ : {A : Type 0} (f : List ℕ → A) (s t : List ℕ) → (f s ≡ f t → ⊥) → false ≡ equal s t
+pub differ : {A : Type 0} (f : List ℕ → A) (s t : List ℕ) → (f s ≡ f t → ⊥) → false ≡ equal s t
 differ f s t n = go (equal s t) refl
   where
     go : (b : Bool) → equal s t ≡ b → false ≡ b

@@ -1,10 +1,11 @@
 -- Laws of the bytes of a text at a place, or at a start and a length.
 use mathlib.Core.Path.{_≡_, sym, _∙_}
 use mathlib.Core.List.{List, []}
-use Prim.Native.Nat.{ℕ, _+_, _-_, _≤_, _<_}
+use Prim.Native.Nat.{ℕ, _+_, _-_, _≤_, _<_, min}
 use native.Mathlib.Omega.{arith}
+use native.Mathlib.Decide.{decLe}
 use borrow.Author.Tests.{le-leb, lt-leb}
-use lib.ListN.{length, getD, take, drop, length-drop, drop-of-length-le, List·getD-eq-default}
+use lib.ListN.{length, getD, take, drop, length-take, length-drop, drop-of-length-le, List·getD-eq-default}
 use lib.Seq.{take-all, take-nil}
 use Rattle.text.specs.Span.{partOf, clipped}
 
@@ -17,20 +18,6 @@ pub past : (s : List ℕ) (i : ℕ) → length s ≤ i → 0 ≡ getD s i 0
 past s i h = sym (List·getD-eq-default s 0 h)
 
 module _ (s : List ℕ) (start len : ℕ) where
-  pub part-far : length s < start → [] ≡ partOf s start len
-  unfolding partOf
-  part-far h = rw (lt-leb (start + len) (length s) (omega arith))
-
-  pub part-long : start ≤ length s → length s - start < len → [] ≡ partOf s start len
-  unfolding partOf
-  part-long h l = rw (lt-leb (start + len) (length s) (omega arith))
-
-  pub part-in : start ≤ length s → len ≤ length s - start → take (start + len - start) (drop start s) ≡ partOf s start len
-  unfolding partOf
-  part-in h l =
-      let e : start + len - start ≡ len = omega arith in
-      rw (le-leb (start + len) (length s) (omega arith), e)
-
   pub clip-far : length s ≤ start → [] ≡ clipped s start len
   unfolding clipped
   clip-far h = rw (drop-of-length-le s h) (sym (take-nil len))
@@ -49,5 +36,25 @@ module _ (s : List ℕ) (start len : ℕ) where
 
   -- inside the text both notions are the same
   pub part-clipped : start + len ≤ length s → partOf s start len ≡ clipped s start len
-  unfolding partOf clipped
+  unfolding partOf
   part-clipped h = rw (le-leb (start + len) (length s) h)
+
+  -- a part by what was clipped: too short, or all of it
+  module _ (t : List ℕ) (e : t ≡ clipped s start len) where
+    clipped-length : length t ≡ min len (length s - start)
+    unfolding clipped
+    clipped-length = rw (e, length-take, length-drop)
+
+    pub part-short : length t < len → [] ≡ partOf s start len
+    unfolding partOf
+    part-short h = rw (lt-leb (start + len) (length s) (omega (arith, clipped-length)))
+
+    pub part-long : len ≤ length t → t ≡ partOf s start len
+    unfolding partOf clipped
+    part-long h =
+        elim (decLe (start + len) (length s)) [
+          | yes l ↦ e ∙ sym (part-clipped l)
+          | no l ↦
+              let z : len ≡ 0 = omega (arith, clipped-length) in
+              e ∙ rw (lt-leb (start + len) (length s) (omega arith), z)
+        ]

@@ -12,7 +12,7 @@ pub enum Ordering {
 
 // Whether a and b, of one length, are the same bytes. The loop looks at all bytes, for one that could
 // stop early would look at one byte at a time.
-fn same_each(a: &[u8], b: &[u8]) -> bool
+pub(crate) fn same_each(a: &[u8], b: &[u8]) -> bool
     requires { ⌜ length (now a) ≡ length (now b) ⌝ }
     ensures { λ r. ⌜ r ≡ equal (now (a .entry)) (now (b .entry)) ⌝ }
 {

@@ -8,20 +8,6 @@ pub struct Span {
     pub end: usize,
 }
 
-// The len bytes of s from start on, and no bytes where they are not all in s.
-pub fn part(s: &[u8], start: usize, len: usize) -> &[u8]
-    ensures { λ r. ⌜ now r ≡ partOf (now (s .entry)) start len ⌝ }
-{
-    if s.len() < start {
-        return &s[0..0];
-    }
-    if s.len() - start < len {
-        return &s[0..0];
-    }
-    let end = start + len;
-    &s[start..end]
-}
-
 // At most len bytes of s from start on: those that s has.
 pub fn clip(s: &[u8], start: usize, len: usize) -> &[u8]
     ensures { λ r. ⌜ now r ≡ clipped (now (s .entry)) start len ⌝ }
@@ -34,4 +20,15 @@ pub fn clip(s: &[u8], start: usize, len: usize) -> &[u8]
     }
     let past = start + len;
     &s[start..past]
+}
+
+// The len bytes of s from start on, and no bytes where they are not all in s.
+pub fn part(s: &[u8], start: usize, len: usize) -> &[u8]
+    ensures { λ r. ⌜ now r ≡ partOf (now (s .entry)) start len ⌝ }
+{
+    let there = clip(s, start, len);
+    if there.len() < len {
+        return &s[0..0];
+    }
+    there
 }

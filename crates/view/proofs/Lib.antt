@@ -1,2 +1,4 @@
 pub mod Places
 pub mod Rows
+pub mod Taken
+pub mod Made

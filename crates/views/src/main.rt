@@ -49,17 +49,10 @@ fn print_view(text: &[u8], start: i64, length: i64) {
     print(b"\n");
 }
 
-// A start with each length.
-fn print_start(text: &[u8], start: i64) {
-    for i in 0..12 {
-        print_view(text, start, NUMBERS[i]);
-    }
-}
-
 // Each start with each length.
 fn print_text(text: &[u8]) {
-    for i in 0..12 {
-        print_start(text, NUMBERS[i]);
+    for i in 0..144 {
+        print_view(text, NUMBERS[i / 12], NUMBERS[i % 12]);
     }
 }
 

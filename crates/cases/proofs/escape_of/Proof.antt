@@ -8,18 +8,6 @@ returns : tie.Need-returns
 unfolding escaped
 returns c = simp (c .if1 .taken)
 
-nibble-of-requires : tie.Need-nibble-of-requires
-nibble-of-requires c κs = search needs
-
-nibble-of-requires-2 : tie.Need-nibble-of-requires-2
-nibble-of-requires-2 c κs = search needs
-
-mul-t8 : tie.Need-mul-t8
-mul-t8 c = search needs
-
-add-t9 : tie.Need-add-t9
-add-t9 c = search needs
-
 returns-2 : tie.Need-returns-2
 unfolding escaped
 returns-2 c = simp (lt-ltb _ _ (c .if3 .taken), lt-ltb _ _ (c .before .if2 .taken), ← c .before .before .nibble-of2 .ensures, ← c .before .before .before .nibble-of .ensures, c .before .before .before .before .if1 .left)
@@ -37,10 +25,10 @@ escape-of-spec =
     tie.close
     (tie.spec
     returns
-    nibble-of-requires
-    nibble-of-requires-2
-    mul-t8
-    add-t9
+    (λ c κs. search needs)
+    (λ c κs. search needs)
+    (λ c. search needs)
+    (λ c. search needs)
     returns-2
     returns-3
     returns-4)

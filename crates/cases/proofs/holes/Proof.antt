@@ -17,18 +17,6 @@ abbrev μ-loop : tie.MeasureT-loop
 loop-holds : tie.Need-loop-holds Inv-loop μ-loop
 loop-holds c = (omega arith, omega arith, holes-start _)
 
-symbol-at-requires : tie.Need-symbol-at-requires Inv-loop μ-loop
-symbol-at-requires c κs = search needs
-
-weight-of-requires : tie.Need-weight-of-requires Inv-loop μ-loop
-weight-of-requires c κs = search needs
-
-add-up-requires : tie.Need-add-up-requires Inv-loop μ-loop
-add-up-requires c κs = search needs
-
-size-of-requires : tie.Need-size-of-requires Inv-loop μ-loop
-size-of-requires c κs = search needs
-
 add-i : tie.Need-add-i Inv-loop μ-loop
 add-i c = omega (arith, turn _ _ (c .before .before .before .before .loop-test .taken) _ (c .before .before .before .symbol-at .ensures) _ (c .size-of .ensures))
 
@@ -48,10 +36,10 @@ holes-spec =
     Inv-loop
     μ-loop
     loop-holds
-    symbol-at-requires
-    weight-of-requires
-    add-up-requires
-    size-of-requires
+    (λ c κs. search needs)
+    (λ c κs. search needs)
+    (λ c κs. search needs)
+    (λ c κs. search needs)
     add-i
     loop-less
     loop-again

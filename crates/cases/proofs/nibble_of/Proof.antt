@@ -4,9 +4,6 @@ use borrow.Author.Needs.{needs}
 use Rattle.cases.proofs.nibble_of.Statement.{statement}
 use Rattle.cases.proofs.nibble_of.Tie as tie
 
-is-within-requires : tie.Need-is-within-requires
-is-within-requires c κs = search needs
-
 sub-result : tie.Need-sub-result
 sub-result c = search reached
 
@@ -14,27 +11,15 @@ returns : tie.Need-returns
 unfolding nibble
 returns c = simp (c .if1 .taken, ← c .before .is-within .ensures)
 
-is-within-requires-2 : tie.Need-is-within-requires-2
-is-within-requires-2 c κs = search needs
-
 sub-result-2 : tie.Need-sub-result-2
 sub-result-2 c = search reached
-
-add-result : tie.Need-add-result
-add-result c = search needs
 
 returns-2 : tie.Need-returns-2
 unfolding nibble
 returns-2 c = simp (c .if2 .taken, ← c .before .is-within2 .ensures, c .before .before .if1 .left, ← c .before .before .before .is-within .ensures)
 
-is-within-requires-3 : tie.Need-is-within-requires-3
-is-within-requires-3 c κs = search needs
-
 sub-result-3 : tie.Need-sub-result-3
 sub-result-3 c = search reached
-
-add-result-2 : tie.Need-add-result-2
-add-result-2 c = search needs
 
 returns-3 : tie.Need-returns-3
 unfolding nibble
@@ -48,15 +33,15 @@ pub nibble-of-spec : {M : Type 1} → statement M
 nibble-of-spec =
     tie.close
     (tie.spec
-    is-within-requires
+    (λ c κs. search needs)
     sub-result
     returns
-    is-within-requires-2
+    (λ c κs. search needs)
     sub-result-2
-    add-result
+    (λ c. search needs)
     returns-2
-    is-within-requires-3
+    (λ c κs. search needs)
     sub-result-3
-    add-result-2
+    (λ c. search needs)
     returns-3
     returns-4)

@@ -1,10 +1,7 @@
-use Rattle.date.specs.Walk.{numbered}
+use Rattle.date.specs.Date.{numbered}
 use borrow.Author.Needs.{needs}
 use Rattle.date.proofs.from_number.Statement.{statement}
 use Rattle.date.proofs.from_number.Tie as tie
-
-is-day-requires : tie.Need-is-day-requires
-is-day-requires c κs = search needs
 
 returns : tie.Need-returns
 unfolding numbered
@@ -15,4 +12,4 @@ unfolding numbered
 returns-2 c = simp (c .if1 .left, ← c .before .is-day .ensures)
 
 pub from-number-spec : {M : Type 1} → statement M
-from-number-spec = tie.close (tie.spec is-day-requires returns returns-2)
+from-number-spec = tie.close (tie.spec (λ c κs. search needs) returns returns-2)

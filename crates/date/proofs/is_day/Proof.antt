@@ -4,9 +4,6 @@ use borrow.Author.Needs.{needs}
 use Rattle.date.proofs.is_day.Statement.{statement}
 use Rattle.date.proofs.is_day.Tie as tie
 
-days-in-month-requires : tie.Need-days-in-month-requires
-days-in-month-requires c κs = search needs
-
 returns : tie.Need-returns
 unfolding isDay within
 returns c = simp (c .days-in-month .ensures, c .before .if3 .taken, c .before .before .if2 .taken, c .before .before .before .if1 .taken)
@@ -24,4 +21,4 @@ unfolding isDay within
 returns-4 c = simp (c .if1 .left)
 
 pub is-day-spec : {M : Type 1} → statement M
-is-day-spec = tie.close (tie.spec days-in-month-requires returns returns-2 returns-3 returns-4)
+is-day-spec = tie.close (tie.spec (λ c κs. search needs) returns returns-2 returns-3 returns-4)

@@ -14,45 +14,6 @@ abbrev μ-loop : tie.MeasureT-loop
 loop-holds : tie.Need-loop-holds Inv-loop μ-loop
 loop-holds c = (refl, refl)
 
-find-requires : tie.Need-find-requires Inv-loop μ-loop
-find-requires c κs = search needs
-
-sub-print-line : tie.Need-sub-print-line Inv-loop μ-loop
-sub-print-line c = search needs
-
-part-print-line-start : tie.Need-part-print-line-start Inv-loop μ-loop
-part-print-line-start c = search needs
-
-part-print-line-end : tie.Need-part-print-line-end Inv-loop μ-loop
-part-print-line-end c = search needs
-
-print-line-requires : tie.Need-print-line-requires Inv-loop μ-loop
-print-line-requires c κs = search needs
-
-slice-aggregate-print : tie.Need-slice-aggregate-print Inv-loop μ-loop
-slice-aggregate-print c = search needs
-
-print-requires : tie.Need-print-requires Inv-loop μ-loop
-print-requires c κs = search needs
-
-add-from : tie.Need-add-from Inv-loop μ-loop
-add-from c = search needs
-
-loop-less : tie.Need-loop-less Inv-loop μ-loop
-loop-less c = search needs
-
-loop-again : tie.Need-loop-again Inv-loop μ-loop
-loop-again c = search needs
-
-same-length : tie.Need-same-length Inv-loop μ-loop
-same-length c = search needs
-
-same-length-2 : tie.Need-same-length-2 Inv-loop μ-loop
-same-length-2 c = search needs
-
-returns : tie.Need-returns Inv-loop μ-loop
-returns c = search needs
-
 pub print-lines-spec : {M : Type 1} → statement M
 print-lines-spec =
     tie.close
@@ -60,16 +21,16 @@ print-lines-spec =
     Inv-loop
     μ-loop
     loop-holds
-    find-requires
-    sub-print-line
-    part-print-line-start
-    part-print-line-end
-    print-line-requires
-    slice-aggregate-print
-    print-requires
-    add-from
-    loop-less
-    loop-again
-    same-length
-    same-length-2
-    returns)
+    (λ c κs. search needs)
+    (λ c. search needs)
+    (λ c. search needs)
+    (λ c. search needs)
+    (λ c κs. search needs)
+    (λ c. search needs)
+    (λ c κs. search needs)
+    (λ c. search needs)
+    (λ c. search needs)
+    (λ c. search needs)
+    (λ c. search needs)
+    (λ c. search needs)
+    (λ c. search needs))

@@ -4,10 +4,10 @@ use Rattle.views.proofs.print_text.Statement.{statement}
 use Rattle.views.proofs.print_text.Tie as tie
 
 abbrev Inv-loop : tie.InvT-loop
-Inv-loop text i₀ i = i ≤ 12
+Inv-loop text i₀ i = i ≤ 144
 
 abbrev μ-loop : tie.MeasureT-loop
-μ-loop text i₀ i = 12 - i
+μ-loop text i₀ i = 144 - i
 
 pub print-text-spec : {M : Type 1} → statement M
 print-text-spec =
@@ -15,6 +15,8 @@ print-text-spec =
     (tie.spec
     Inv-loop
     μ-loop
+    (λ c. search needs)
+    (λ c. search needs)
     (λ c. search needs)
     (λ c. search needs)
     (λ c. search needs)

@@ -5,12 +5,6 @@ use borrow.Author.Needs.{needs}
 use Rattle.amount.proofs.amount.in_range.Statement.{statement}
 use Rattle.amount.proofs.amount.in_range.Tie as tie
 
-negated-requires : tie.Need-negated-requires
-negated-requires c κs = search needs
-
-amount-of-requires : tie.Need-amount-of-requires
-amount-of-requires c κs = search needs
-
 returns : tie.Need-returns
 unfolding ranged
 returns c = simp (c .amount-of .ensures, read64 (c .before .negated .result) (c .before .negated .ok), ← c .before .negated .ensures, le-leb _ _ (c .before .before .if2 .taken), c .before .before .before .if1 .taken)
@@ -18,12 +12,6 @@ returns c = simp (c .amount-of .ensures, read64 (c .before .negated .result) (c 
 returns-2 : tie.Need-returns-2
 unfolding ranged
 returns-2 c = simp (lt-leb _ _ (c .if2 .left), c .before .if1 .taken)
-
-to-i64-requires : tie.Need-to-i64-requires
-to-i64-requires c κs = search needs
-
-amount-of-requires-2 : tie.Need-amount-of-requires-2
-amount-of-requires-2 c κs = search needs
 
 returns-3 : tie.Need-returns-3
 unfolding ranged
@@ -37,11 +25,11 @@ pub in-range-spec : {M : Type 1} → statement M
 in-range-spec =
     tie.close
     (tie.spec
-    negated-requires
-    amount-of-requires
+    (λ c κs. search needs)
+    (λ c κs. search needs)
     returns
     returns-2
-    to-i64-requires
-    amount-of-requires-2
+    (λ c κs. search needs)
+    (λ c κs. search needs)
     returns-3
     returns-4)

@@ -8,18 +8,12 @@ returns : tie.Need-returns
 unfolding padded
 returns c = simp (c .if1 .taken)
 
-in-range-requires : tie.Need-in-range-requires
-in-range-requires c κs = search needs
-
 returns-2 : tie.Need-returns-2
 unfolding padded
 returns-2 c = simp (c .in-range .ensures, c .before .if2 .taken, c .before .before .if1 .left)
 
 push-digit-requires : tie.Need-push-digit-requires
 push-digit-requires c κs = zero-digit
-
-in-range-requires-2 : tie.Need-in-range-requires-2
-in-range-requires-2 c κs = search needs
 
 returns-3 : tie.Need-returns-3
 unfolding padded
@@ -31,9 +25,6 @@ push-digit-requires-2 c κs = zero-digit
 push-digit-requires-3 : tie.Need-push-digit-requires-3
 push-digit-requires-3 c κs = zero-digit
 
-in-range-requires-3 : tie.Need-in-range-requires-3
-in-range-requires-3 c κs = search needs
-
 returns-4 : tie.Need-returns-4
 unfolding padded
 returns-4 c = simp (c .in-range3 .ensures, ← c .before .push-digit3 .ensures, ← c .before .before .push-digit2 .ensures, c .before .before .before .if3 .left, c .before .before .before .before .if2 .left, c .before .before .before .before .before .if1 .left)
@@ -43,12 +34,12 @@ pad-spec =
     tie.close
     (tie.spec
     returns
-    in-range-requires
+    (λ c κs. search needs)
     returns-2
     push-digit-requires
-    in-range-requires-2
+    (λ c κs. search needs)
     returns-3
     push-digit-requires-2
     push-digit-requires-3
-    in-range-requires-3
+    (λ c κs. search needs)
     returns-4)

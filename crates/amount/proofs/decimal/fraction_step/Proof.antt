@@ -4,15 +4,6 @@ use borrow.Author.Needs.{needs}
 use Rattle.amount.proofs.decimal.fraction_step.Statement.{statement}
 use Rattle.amount.proofs.decimal.fraction_step.Tie as tie
 
-is-digit-requires : tie.Need-is-digit-requires
-is-digit-requires c κs = search needs
-
-count-up-requires : tie.Need-count-up-requires
-count-up-requires c κs = search needs
-
-count-up-requires-2 : tie.Need-count-up-requires-2
-count-up-requires-2 c κs = search needs
-
 push-digit-requires : tie.Need-push-digit-requires
 push-digit-requires c κs = search passed
 
@@ -28,9 +19,9 @@ pub fraction-step-spec : {M : Type 1} → statement M
 fraction-step-spec =
     tie.close
     (tie.spec
-    is-digit-requires
-    count-up-requires
-    count-up-requires-2
+    (λ c κs. search needs)
+    (λ c κs. search needs)
+    (λ c κs. search needs)
     push-digit-requires
     returns
     returns-2)

@@ -4,12 +4,6 @@ use borrow.Author.Needs.{needs}
 use Rattle.amount.proofs.decimal.whole_step.Statement.{statement}
 use Rattle.amount.proofs.decimal.whole_step.Tie as tie
 
-is-digit-requires : tie.Need-is-digit-requires
-is-digit-requires c κs = search needs
-
-count-up-requires : tie.Need-count-up-requires
-count-up-requires c κs = search needs
-
 push-digit-requires : tie.Need-push-digit-requires
 push-digit-requires c κs = search passed
 
@@ -28,4 +22,10 @@ returns-3 c = simp (c .if2 .left, c .before .if1 .left, ← c .before .before .i
 pub whole-step-spec : {M : Type 1} → statement M
 whole-step-spec =
     tie.close
-    (tie.spec is-digit-requires count-up-requires push-digit-requires returns returns-2 returns-3)
+    (tie.spec
+    (λ c κs. search needs)
+    (λ c κs. search needs)
+    push-digit-requires
+    returns
+    returns-2
+    returns-3)

@@ -5,19 +5,13 @@ use borrow.Author.Needs.{needs}
 use Rattle.amount.proofs.numeric.with_sign.Statement.{statement}
 use Rattle.amount.proofs.numeric.with_sign.Tie as tie
 
-negated-requires : tie.Need-negated-requires
-negated-requires c κs = search needs
-
 returns : tie.Need-returns
 unfolding signed
 returns c = simp (read64 (c .negated .result) (c .negated .ok) ∙ c .negated .ensures, c .before .if1 .taken)
-
-to-i64-requires : tie.Need-to-i64-requires
-to-i64-requires c κs = search needs
 
 returns-2 : tie.Need-returns-2
 unfolding signed
 returns-2 c = simp (read64 (c .to-i64 .result) (c .to-i64 .ok) ∙ c .to-i64 .ensures, c .before .if1 .left)
 
 pub with-sign-spec : {M : Type 1} → statement M
-with-sign-spec = tie.close (tie.spec negated-requires returns to-i64-requires returns-2)
+with-sign-spec = tie.close (tie.spec (λ c κs. search needs) returns (λ c κs. search needs) returns-2)

@@ -3,9 +3,6 @@ use borrow.Author.Needs.{needs}
 use Rattle.amount.proofs.signed.below_zero.Statement.{statement}
 use Rattle.amount.proofs.signed.below_zero.Tie as tie
 
-cast-result : tie.Need-cast-result
-cast-result c = search needs
-
 sub-result : tie.Need-sub-result
 sub-result c = less-fits (c .pre)
 
@@ -13,4 +10,4 @@ returns : tie.Need-returns
 returns c = less-read (c .pre)
 
 pub below-zero-spec : {M : Type 1} → statement M
-below-zero-spec = tie.close (tie.spec cast-result sub-result returns)
+below-zero-spec = tie.close (tie.spec (λ c. search needs) sub-result returns)

@@ -6,14 +6,8 @@ use Rattle.amount.proofs.signed.negated.Tie as tie
 returns : tie.Need-returns
 returns c = search neg-zero
 
-sub-below-zero : tie.Need-sub-below-zero
-sub-below-zero c = search needs
-
-below-zero-requires : tie.Need-below-zero-requires
-below-zero-requires c κs = search needs
-
 returns-2 : tie.Need-returns-2
 returns-2 c = neg-read _ (c .before .before .pre) (c .before .if1 .left) (c .below-zero .ensures)
 
 pub negated-spec : {M : Type 1} → statement M
-negated-spec = tie.close (tie.spec returns sub-below-zero below-zero-requires returns-2)
+negated-spec = tie.close (tie.spec returns (λ c. search needs) (λ c κs. search needs) returns-2)

@@ -19,23 +19,8 @@ abbrev μ-loop : tie.MeasureT-loop
 loop-holds : tie.Need-loop-holds Inv-loop μ-loop
 loop-holds c = (omega arith, good-start _, refl)
 
-char-at-requires : tie.Need-char-at-requires Inv-loop μ-loop
-char-at-requires c κs = search needs
-
-is-good-requires : tie.Need-is-good-requires Inv-loop μ-loop
-is-good-requires c κs = search needs
-
-size-of-requires : tie.Need-size-of-requires Inv-loop μ-loop
-size-of-requires c κs = search needs
-
 add-end : tie.Need-add-end Inv-loop μ-loop
 add-end c = omega (arith, turn _ _ (c .before .before .before .before .loop-test .taken) _ (c .before .before .before .char-at .ensures) _ (c .size-of .ensures))
-
-is-trimmed-requires : tie.Need-is-trimmed-requires Inv-loop μ-loop
-is-trimmed-requires c κs = search needs
-
-widen-requires : tie.Need-widen-requires Inv-loop μ-loop
-widen-requires c κs = search needs
 
 loop-less : tie.Need-loop-less Inv-loop μ-loop
 loop-less c = omega (arith, turn _ _ (c .before .before .before .before .before .before .loop-test .taken) _ (c .before .before .before .before .before .char-at .ensures) _ (c .before .before .size-of .ensures))
@@ -56,12 +41,12 @@ trim-each-spec =
     Inv-loop
     μ-loop
     loop-holds
-    char-at-requires
-    is-good-requires
-    size-of-requires
+    (λ c κs. search needs)
+    (λ c κs. search needs)
+    (λ c κs. search needs)
     add-end
-    is-trimmed-requires
-    widen-requires
+    (λ c κs. search needs)
+    (λ c κs. search needs)
     loop-less
     loop-again
     returns

@@ -4,9 +4,6 @@ use borrow.Author.Needs.{needs}
 use Rattle.characters.proofs.trimming.trimmed_text.Statement.{statement}
 use Rattle.characters.proofs.trimming.trimmed_text.Tie as tie
 
-trim-requires : tie.Need-trim-requires
-trim-requires c κs = search needs
-
 sub-result : tie.Need-sub-result
 sub-result c = omega (arith, trimmed-in _ _ _ (c .trim .ensures))
 
@@ -21,4 +18,4 @@ returns c = search cut-trimmed
 
 pub trimmed-text-spec : {M : Type 1} → statement M
 trimmed-text-spec =
-    tie.close (tie.spec trim-requires sub-result part-result-start part-result-end returns)
+    tie.close (tie.spec (λ c κs. search needs) sub-result part-result-start part-result-end returns)

@@ -19,18 +19,6 @@ abbrev μ-loop : tie.MeasureT-loop
 loop-holds : tie.Need-loop-holds Inv-loop μ-loop
 loop-holds c = (omega arith, refl)
 
-shared-slice-read-if1 : tie.Need-shared-slice-read-if1 Inv-loop μ-loop
-shared-slice-read-if1 c = omega arith
-
-shared-slice-read-greatest : tie.Need-shared-slice-read-greatest Inv-loop μ-loop
-shared-slice-read-greatest c = omega arith
-
-add-i : tie.Need-add-i Inv-loop μ-loop
-add-i c = omega arith
-
-loop-less : tie.Need-loop-less Inv-loop μ-loop
-loop-less c = omega arith
-
 loop-again : tie.Need-loop-again Inv-loop μ-loop
 loop-again c = (omega arith, ⊎-elim (λ w. search ascii-greater) (λ w. search ascii-on) (c .if1 .came))
 
@@ -44,9 +32,9 @@ is-ascii-spec =
     Inv-loop
     μ-loop
     loop-holds
-    shared-slice-read-if1
-    shared-slice-read-greatest
-    add-i
-    loop-less
+    (λ c. omega arith)
+    (λ c. omega arith)
+    (λ c. omega arith)
+    (λ c. omega arith)
     loop-again
     returns)

@@ -3,15 +3,9 @@ use borrow.Author.Needs.{needs}
 use Rattle.characters.proofs.utf8.is_boundary.Statement.{statement}
 use Rattle.characters.proofs.utf8.is_boundary.Tie as tie
 
-byte-at-requires : tie.Need-byte-at-requires
-byte-at-requires c κs = search needs
-
-is-tail-requires : tie.Need-is-tail-requires
-is-tail-requires c κs = search needs
-
 returns : tie.Need-returns
 unfolding boundary
 returns c = simp (c .is-tail .ensures, ← c .before .byte-at .ensures)
 
 pub is-boundary-spec : {M : Type 1} → statement M
-is-boundary-spec = tie.close (tie.spec byte-at-requires is-tail-requires returns)
+is-boundary-spec = tie.close (tie.spec (λ c κs. search needs) (λ c κs. search needs) returns)

@@ -17,9 +17,6 @@ abbrev μ-loop : tie.MeasureT-loop
 loop-holds : tie.Need-loop-holds Inv-loop μ-loop
 loop-holds c = (omega arith, good-start _)
 
-step-at-requires : tie.Need-step-at-requires Inv-loop μ-loop
-step-at-requires c κs = search needs
-
 returns : tie.Need-returns Inv-loop μ-loop
 returns c = search step-stop
 
@@ -42,7 +39,7 @@ is-utf8-each-spec =
     Inv-loop
     μ-loop
     loop-holds
-    step-at-requires
+    (λ c κs. search needs)
     returns
     add-i
     loop-less

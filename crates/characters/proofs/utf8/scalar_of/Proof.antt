@@ -3,9 +3,6 @@ use borrow.Author.Needs.{needs}
 use Rattle.characters.proofs.utf8.scalar_of.Statement.{statement}
 use Rattle.characters.proofs.utf8.scalar_of.Tie as tie
 
-is-scalar-requires : tie.Need-is-scalar-requires
-is-scalar-requires c κs = search needs
-
 returns : tie.Need-returns
 unfolding scalar
 returns c = simp (c .if2 .taken, ← c .before .is-scalar .ensures, c .before .before .if1 .taken)
@@ -19,4 +16,4 @@ unfolding scalar
 returns-3 c = simp (c .if1 .left)
 
 pub scalar-of-spec : {M : Type 1} → statement M
-scalar-of-spec = tie.close (tie.spec is-scalar-requires returns returns-2 returns-3)
+scalar-of-spec = tie.close (tie.spec (λ c κs. search needs) returns returns-2 returns-3)

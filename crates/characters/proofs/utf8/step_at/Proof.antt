@@ -3,21 +3,9 @@ use borrow.Author.Needs.{needs}
 use Rattle.characters.proofs.utf8.step_at.Statement.{statement}
 use Rattle.characters.proofs.utf8.step_at.Tie as tie
 
-is-plain-requires : tie.Need-is-plain-requires
-is-plain-requires c κs = search needs
-
 returns : tie.Need-returns
 unfolding step
 returns c = simp (c .if1 .taken, ← c .before .is-plain .ensures)
-
-char-at-requires : tie.Need-char-at-requires
-char-at-requires c κs = search needs
-
-is-good-requires : tie.Need-is-good-requires
-is-good-requires c κs = search needs
-
-size-of-requires : tie.Need-size-of-requires
-size-of-requires c κs = search needs
 
 returns-2 : tie.Need-returns-2
 unfolding step
@@ -31,10 +19,10 @@ pub step-at-spec : {M : Type 1} → statement M
 step-at-spec =
     tie.close
     (tie.spec
-    is-plain-requires
+    (λ c κs. search needs)
     returns
-    char-at-requires
-    is-good-requires
-    size-of-requires
+    (λ c κs. search needs)
+    (λ c κs. search needs)
+    (λ c κs. search needs)
     returns-2
     returns-3)

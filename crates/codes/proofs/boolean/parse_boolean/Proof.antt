@@ -5,41 +5,17 @@ use Rattle.codes.specs.Boolean.{booleanOf, literals}
 use Rattle.codes.proofs.boolean.parse_boolean.Statement.{statement}
 use Rattle.codes.proofs.boolean.parse_boolean.Tie as tie
 
-slice-aggregate-same : tie.Need-slice-aggregate-same
-slice-aggregate-same c = search needs
-
-same-requires : tie.Need-same-requires
-same-requires c κs = search needs
-
 returns : tie.Need-returns
 unfolding booleanOf literals meaning bytes encode
 returns c = simp (c .if1 .taken, ← c .before .same .ensures)
-
-slice-aggregate-same-2 : tie.Need-slice-aggregate-same-2
-slice-aggregate-same-2 c = search needs
-
-same-requires-2 : tie.Need-same-requires-2
-same-requires-2 c κs = search needs
 
 returns-2 : tie.Need-returns-2
 unfolding booleanOf literals meaning bytes encode
 returns-2 c = simp (c .if2 .taken, ← c .before .same2 .ensures, c .before .before .before .if1 .left, ← c .before .before .before .before .same .ensures)
 
-slice-aggregate-same-3 : tie.Need-slice-aggregate-same-3
-slice-aggregate-same-3 c = search needs
-
-same-requires-3 : tie.Need-same-requires-3
-same-requires-3 c κs = search needs
-
 returns-3 : tie.Need-returns-3
 unfolding booleanOf literals meaning bytes encode
 returns-3 c = simp (c .if3 .taken, ← c .before .same3 .ensures, c .before .before .before .if2 .left, ← c .before .before .before .before .same2 .ensures, c .before .before .before .before .before .before .if1 .left, ← c .before .before .before .before .before .before .before .same .ensures)
-
-slice-aggregate-same-4 : tie.Need-slice-aggregate-same-4
-slice-aggregate-same-4 c = search needs
-
-same-requires-4 : tie.Need-same-requires-4
-same-requires-4 c κs = search needs
 
 returns-4 : tie.Need-returns-4
 unfolding booleanOf literals meaning bytes encode
@@ -53,16 +29,16 @@ pub parse-boolean-spec : {M : Type 1} → statement M
 parse-boolean-spec =
     tie.close
     (tie.spec
-    slice-aggregate-same
-    same-requires
+    (λ c. search needs)
+    (λ c κs. search needs)
     returns
-    slice-aggregate-same-2
-    same-requires-2
+    (λ c. search needs)
+    (λ c κs. search needs)
     returns-2
-    slice-aggregate-same-3
-    same-requires-3
+    (λ c. search needs)
+    (λ c κs. search needs)
     returns-3
-    slice-aggregate-same-4
-    same-requires-4
+    (λ c. search needs)
+    (λ c κs. search needs)
     returns-4
     returns-5)

@@ -17,23 +17,11 @@ abbrev μ-loop : tie.MeasureT-loop
 loop-holds : tie.Need-loop-holds Inv-loop μ-loop
 loop-holds c = (omega arith, refl)
 
-begins-at-requires : tie.Need-begins-at-requires Inv-loop μ-loop
-begins-at-requires c κs = search needs
-
 returns : tie.Need-returns Inv-loop μ-loop
 returns c = search contains-here
 
-add-i : tie.Need-add-i Inv-loop μ-loop
-add-i c = omega arith
-
-loop-less : tie.Need-loop-less Inv-loop μ-loop
-loop-less c = omega arith
-
 loop-again : tie.Need-loop-again Inv-loop μ-loop
 loop-again c = (omega arith, search contains-on)
-
-begins-at-requires-2 : tie.Need-begins-at-requires-2 Inv-loop μ-loop
-begins-at-requires-2 c κs = search needs
 
 returns-2 : tie.Need-returns-2 Inv-loop μ-loop
 returns-2 c = search contains-end
@@ -45,10 +33,10 @@ contains-spec =
     Inv-loop
     μ-loop
     loop-holds
-    begins-at-requires
+    (λ c κs. search needs)
     returns
-    add-i
-    loop-less
+    (λ c. omega arith)
+    (λ c. omega arith)
     loop-again
-    begins-at-requires-2
+    (λ c κs. search needs)
     returns-2)

@@ -4,21 +4,9 @@ use Rattle.codes.specs.Conformant.{conformant}
 use Rattle.codes.proofs.conformant.is_conformant.Statement.{statement}
 use Rattle.codes.proofs.conformant.is_conformant.Tie as tie
 
-slice-aggregate-contains : tie.Need-slice-aggregate-contains
-slice-aggregate-contains c = search needs
-
-contains-requires : tie.Need-contains-requires
-contains-requires c κs = search needs
-
 returns : tie.Need-returns
 unfolding conformant bytes encode
 returns c = simp (c .if1 .taken, ← c .before .contains .ensures)
-
-slice-aggregate-contains-2 : tie.Need-slice-aggregate-contains-2
-slice-aggregate-contains-2 c = search needs
-
-contains-requires-2 : tie.Need-contains-requires-2
-contains-requires-2 c κs = search needs
 
 returns-2 : tie.Need-returns-2
 unfolding conformant bytes encode
@@ -28,9 +16,9 @@ pub is-conformant-spec : {M : Type 1} → statement M
 is-conformant-spec =
     tie.close
     (tie.spec
-    slice-aggregate-contains
-    contains-requires
+    (λ c. search needs)
+    (λ c κs. search needs)
     returns
-    slice-aggregate-contains-2
-    contains-requires-2
+    (λ c. search needs)
+    (λ c κs. search needs)
     returns-2)

@@ -7,21 +7,6 @@ use Rattle.codes.proofs.Currencies.{key, keys, codes-ascend, listed-thr
 use Rattle.codes.proofs.currency.is_currency.Statement.{statement}
 use Rattle.codes.proofs.currency.is_currency.Tie as tie
 
-slice-aggregate-find : tie.Need-slice-aggregate-find
-slice-aggregate-find c = search needs
-
-shared-slice-read-packed : tie.Need-shared-slice-read-packed
-shared-slice-read-packed c = search needs
-
-shared-slice-read-packed-2 : tie.Need-shared-slice-read-packed-2
-shared-slice-read-packed-2 c = search needs
-
-shared-slice-read-packed-3 : tie.Need-shared-slice-read-packed-3
-shared-slice-read-packed-3 c = search needs
-
-packed-requires : tie.Need-packed-requires
-packed-requires c κs = search needs
-
 find-requires : tie.Need-find-requires
 unfolding keys currencyCodes key bytes encode
 find-requires c κs = codes-ascend
@@ -39,11 +24,11 @@ pub is-currency-spec : {M : Type 1} → statement M
 is-currency-spec =
     tie.close
     (tie.spec
-    slice-aggregate-find
-    shared-slice-read-packed
-    shared-slice-read-packed-2
-    shared-slice-read-packed-3
-    packed-requires
+    (λ c. search needs)
+    (λ c. search needs)
+    (λ c. search needs)
+    (λ c. search needs)
+    (λ c κs. search needs)
     find-requires
     returns
     returns-2)

@@ -4,15 +4,9 @@ use Rattle.codes.specs.DateFormat.{dateFormat}
 use Rattle.codes.proofs.date_format.is_date_format.Statement.{statement}
 use Rattle.codes.proofs.date_format.is_date_format.Tie as tie
 
-slice-aggregate-same : tie.Need-slice-aggregate-same
-slice-aggregate-same c = search needs
-
-same-requires : tie.Need-same-requires
-same-requires c κs = search needs
-
 returns : tie.Need-returns
 unfolding dateFormat bytes encode
 returns c = simp (c .same .ensures)
 
 pub is-date-format-spec : {M : Type 1} → statement M
-is-date-format-spec = tie.close (tie.spec slice-aggregate-same same-requires returns)
+is-date-format-spec = tie.close (tie.spec (λ c. search needs) (λ c κs. search needs) returns)

@@ -4,9 +4,6 @@ use Rattle.codes.proofs.Bits.{bit-below}
 use Rattle.codes.proofs.rules.is_in_force.Statement.{statement}
 use Rattle.codes.proofs.rules.is_in_force.Tie as tie
 
-bit-of-requires : tie.Need-bit-of-requires
-bit-of-requires c κs = search needs
-
 shr-result : tie.Need-shr-result
 shr-result c = rw (c .bit-of .ensures) (bit-below (c .before .args .rule))
 
@@ -15,4 +12,4 @@ unfolding inForce bit
 returns c = simp (c .bit-of .ensures)
 
 pub is-in-force-spec : {M : Type 1} → statement M
-is-in-force-spec = tie.close (tie.spec bit-of-requires shr-result returns)
+is-in-force-spec = tie.close (tie.spec (λ c κs. search needs) shr-result returns)

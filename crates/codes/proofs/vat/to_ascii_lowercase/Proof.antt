@@ -6,9 +6,6 @@ use Rattle.codes.specs.Vat.{lower}
 use Rattle.codes.proofs.vat.to_ascii_lowercase.Statement.{statement}
 use Rattle.codes.proofs.vat.to_ascii_lowercase.Tie as tie
 
-is-ascii-uppercase-requires : tie.Need-is-ascii-uppercase-requires
-is-ascii-uppercase-requires c κs = search needs
-
 add-result : tie.Need-add-result
 add-result c = let h = within-range (c .before .before .args .c) 0x41 0x5A (sym (c .before .is-ascii-uppercase .ensures) ∙ c .if1 .taken) in omega arith
 
@@ -21,4 +18,4 @@ unfolding lower
 returns-2 c = simp (c .if1 .left, ← c .before .is-ascii-uppercase .ensures)
 
 pub to-ascii-lowercase-spec : {M : Type 1} → statement M
-to-ascii-lowercase-spec = tie.close (tie.spec is-ascii-uppercase-requires add-result returns returns-2)
+to-ascii-lowercase-spec = tie.close (tie.spec (λ c κs. search needs) add-result returns returns-2)

@@ -5,31 +5,13 @@ use Rattle.codes.specs.VatPoint.{vatPointDateCodeOf, vatPointDateCodes}
 use Rattle.codes.proofs.vat_point.vat_point_date_code_from_cii.Statement.{statement}
 use Rattle.codes.proofs.vat_point.vat_point_date_code_from_cii.Tie as tie
 
-slice-aggregate-same : tie.Need-slice-aggregate-same
-slice-aggregate-same c = search needs
-
-same-requires : tie.Need-same-requires
-same-requires c κs = search needs
-
 returns : tie.Need-returns
 unfolding vatPointDateCodeOf vatPointDateCodes meaning bytes encode
 returns c = simp (c .if1 .taken, ← c .before .same .ensures)
 
-slice-aggregate-same-2 : tie.Need-slice-aggregate-same-2
-slice-aggregate-same-2 c = search needs
-
-same-requires-2 : tie.Need-same-requires-2
-same-requires-2 c κs = search needs
-
 returns-2 : tie.Need-returns-2
 unfolding vatPointDateCodeOf vatPointDateCodes meaning bytes encode
 returns-2 c = simp (c .if2 .taken, ← c .before .same2 .ensures, c .before .before .before .if1 .left, ← c .before .before .before .before .same .ensures)
-
-slice-aggregate-same-3 : tie.Need-slice-aggregate-same-3
-slice-aggregate-same-3 c = search needs
-
-same-requires-3 : tie.Need-same-requires-3
-same-requires-3 c κs = search needs
 
 returns-3 : tie.Need-returns-3
 unfolding vatPointDateCodeOf vatPointDateCodes meaning bytes encode
@@ -43,13 +25,13 @@ pub vat-point-date-code-from-cii-spec : {M : Type 1} → statement M
 vat-point-date-code-from-cii-spec =
     tie.close
     (tie.spec
-    slice-aggregate-same
-    same-requires
+    (λ c. search needs)
+    (λ c κs. search needs)
     returns
-    slice-aggregate-same-2
-    same-requires-2
+    (λ c. search needs)
+    (λ c κs. search needs)
     returns-2
-    slice-aggregate-same-3
-    same-requires-3
+    (λ c. search needs)
+    (λ c κs. search needs)
     returns-3
     returns-4)

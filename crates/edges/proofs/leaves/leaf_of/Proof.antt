@@ -1,136 +1,31 @@
-use Rattle.text.specs.Utf8.{bytes, encode}
-use Rattle.edges.specs.Names.{named, textLeaves, leafOf}
 use borrow.Author.Needs.{needs}
+use Rattle.text.specs.Place.{allNames, namesIn}
+use Rattle.text.specs.Utf8.{bytes, encode}
+use Rattle.text.proofs.Places.{meant-at, meant-none}
+use Rattle.edges.specs.Names.{leaves}
 use Rattle.edges.proofs.leaves.leaf_of.Statement.{statement}
 use Rattle.edges.proofs.leaves.leaf_of.Tie as tie
 
-slice-aggregate-same : tie.Need-slice-aggregate-same
-slice-aggregate-same c = search needs
-
-same-requires : tie.Need-same-requires
-same-requires c κs = search needs
-
-returns : tie.Need-returns
-unfolding named textLeaves leafOf bytes encode
-returns c = simp (c .if1 .taken, ← c .before .same .ensures)
-
-slice-aggregate-same-2 : tie.Need-slice-aggregate-same-2
-slice-aggregate-same-2 c = search needs
-
-same-requires-2 : tie.Need-same-requires-2
-same-requires-2 c κs = search needs
-
-returns-2 : tie.Need-returns-2
-unfolding named textLeaves leafOf bytes encode
-returns-2 c = simp (c .if2 .taken, ← c .before .same2 .ensures, c .before .before .before .if1 .left, ← c .before .before .before .before .same .ensures)
-
-slice-aggregate-same-3 : tie.Need-slice-aggregate-same-3
-slice-aggregate-same-3 c = search needs
-
-same-requires-3 : tie.Need-same-requires-3
-same-requires-3 c κs = search needs
-
-returns-3 : tie.Need-returns-3
-unfolding named textLeaves leafOf bytes encode
-returns-3 c = simp (c .if3 .taken, ← c .before .same3 .ensures, c .before .before .before .if2 .left, ← c .before .before .before .before .same2 .ensures, c .before .before .before .before .before .before .if1 .left, ← c .before .before .before .before .before .before .before .same .ensures)
-
-slice-aggregate-same-4 : tie.Need-slice-aggregate-same-4
-slice-aggregate-same-4 c = search needs
-
-same-requires-4 : tie.Need-same-requires-4
-same-requires-4 c κs = search needs
-
-returns-4 : tie.Need-returns-4
-unfolding named textLeaves leafOf bytes encode
-returns-4 c = simp (c .if4 .taken, ← c .before .same4 .ensures, c .before .before .before .if3 .left, ← c .before .before .before .before .same3 .ensures, c .before .before .before .before .before .before .if2 .left, ← c .before .before .before .before .before .before .before .same2 .ensures, c .before .before .before .before .before .before .before .before .before .if1 .left, ← c .before .before .before .before .before .before .before .before .before .before .same .ensures)
-
-slice-aggregate-same-5 : tie.Need-slice-aggregate-same-5
-slice-aggregate-same-5 c = search needs
-
-same-requires-5 : tie.Need-same-requires-5
-same-requires-5 c κs = search needs
-
-returns-5 : tie.Need-returns-5
-unfolding named textLeaves leafOf bytes encode
-returns-5 c = simp (c .if5 .taken, ← c .before .same5 .ensures, c .before .before .before .if4 .left, ← c .before .before .before .before .same4 .ensures, c .before .before .before .before .before .before .if3 .left, ← c .before .before .before .before .before .before .before .same3 .ensures, c .before .before .before .before .before .before .before .before .before .if2 .left, ← c .before .before .before .before .before .before .before .before .before .before .same2 .ensures, c .before .before .before .before .before .before .before .before .before .before .before .before .if1 .left, ← c .before .before .before .before .before .before .before .before .before .before .before .before .before .same .ensures)
-
-slice-aggregate-same-6 : tie.Need-slice-aggregate-same-6
-slice-aggregate-same-6 c = search needs
-
-same-requires-6 : tie.Need-same-requires-6
-same-requires-6 c κs = search needs
-
-returns-6 : tie.Need-returns-6
-unfolding named textLeaves leafOf bytes encode
-returns-6 c = simp (c .if6 .taken, ← c .before .same6 .ensures, c .before .before .before .if5 .left, ← c .before .before .before .before .same5 .ensures, c .before .before .before .before .before .before .if4 .left, ← c .before .before .before .before .before .before .before .same4 .ensures, c .before .before .before .before .before .before .before .before .before .if3 .left, ← c .before .before .before .before .before .before .before .before .before .before .same3 .ensures, c .before .before .before .before .before .before .before .before .before .before .before .before .if2 .left, ← c .before .before .before .before .before .before .before .before .before .before .before .before .before .same2 .ensures, c .before .before .before .before .before .before .before .before .before .before .before .before .before .before .before .if1 .left, ← c .before .before .before .before .before .before .before .before .before .before .before .before .before .before .before .before .same .ensures)
-
-slice-aggregate-same-7 : tie.Need-slice-aggregate-same-7
-slice-aggregate-same-7 c = search needs
-
-same-requires-7 : tie.Need-same-requires-7
-same-requires-7 c κs = search needs
-
-returns-7 : tie.Need-returns-7
-unfolding named textLeaves leafOf bytes encode
-returns-7 c = simp (c .if7 .taken, ← c .before .same7 .ensures, c .before .before .before .if6 .left, ← c .before .before .before .before .same6 .ensures, c .before .before .before .before .before .before .if5 .left, ← c .before .before .before .before .before .before .before .same5 .ensures, c .before .before .before .before .before .before .before .before .before .if4 .left, ← c .before .before .before .before .before .before .before .before .before .before .same4 .ensures, c .before .before .before .before .before .before .before .before .before .before .before .before .if3 .left, ← c .before .before .before .before .before .before .before .before .before .before .before .before .before .same3 .ensures, c .before .before .before .before .before .before .before .before .before .before .before .before .before .before .before .if2 .left, ← c .before .before .before .before .before .before .before .before .before .before .before .before .before .before .before .before .same2 .ensures, c .before .before .before .before .before .before .before .before .before .before .before .before .before .before .before .before .before .before .if1 .left, ← c .before .before .before .before .before .before .before .before .before .before .before .before .before .before .before .before .before .before .before .same .ensures)
-
-slice-aggregate-same-8 : tie.Need-slice-aggregate-same-8
-slice-aggregate-same-8 c = search needs
-
-same-requires-8 : tie.Need-same-requires-8
-same-requires-8 c κs = search needs
-
-returns-8 : tie.Need-returns-8
-unfolding named textLeaves leafOf bytes encode
-returns-8 c = simp (c .if8 .taken, ← c .before .same8 .ensures, c .before .before .before .if7 .left, ← c .before .before .before .before .same7 .ensures, c .before .before .before .before .before .before .if6 .left, ← c .before .before .before .before .before .before .before .same6 .ensures, c .before .before .before .before .before .before .before .before .before .if5 .left, ← c .before .before .before .before .before .before .before .before .before .before .same5 .ensures, c .before .before .before .before .before .before .before .before .before .before .before .before .if4 .left, ← c .before .before .before .before .before .before .before .before .before .before .before .before .before .same4 .ensures, c .before .before .before .before .before .before .before .before .before .before .before .before .before .before .before .if3 .left, ← c .before .before .before .before .before .before .before .before .before .before .before .before .before .before .before .before .same3 .ensures, c .before .before .before .before .before .before .before .before .before .before .before .before .before .before .before .before .before .before .if2 .left, ← c .before .before .before .before .before .before .before .before .before .before .before .before .before .before .before .before .before .before .before .same2 .ensures, c .before .before .before .before .before .before .before .before .before .before .before .before .before .before .before .before .before .before .before .before .before .if1 .left, ← c .before .before .before .before .before .before .before .before .before .before .before .before .before .before .before .before .before .before .before .before .before .before .same .ensures)
-
-slice-aggregate-same-9 : tie.Need-slice-aggregate-same-9
-slice-aggregate-same-9 c = search needs
-
-same-requires-9 : tie.Need-same-requires-9
-same-requires-9 c κs = search needs
-
-returns-9 : tie.Need-returns-9
-unfolding named textLeaves leafOf bytes encode
-returns-9 c = simp (c .if9 .taken, ← c .before .same9 .ensures, c .before .before .before .if8 .left, ← c .before .before .before .before .same8 .ensures, c .before .before .before .before .before .before .if7 .left, ← c .before .before .before .before .before .before .before .same7 .ensures, c .before .before .before .before .before .before .before .before .before .if6 .left, ← c .before .before .before .before .before .before .before .before .before .before .same6 .ensures, c .before .before .before .before .before .before .before .before .before .before .before .before .if5 .left, ← c .before .before .before .before .before .before .before .before .before .before .before .before .before .same5 .ensures, c .before .before .before .before .before .before .before .before .before .before .before .before .before .before .before .if4 .left, ← c .before .before .before .before .before .before .before .before .before .before .before .before .before .before .before .before .same4 .ensures, c .before .before .before .before .before .before .before .before .before .before .before .before .before .before .before .before .before .before .if3 .left, ← c .before .before .before .before .before .before .before .before .before .before .before .before .before .before .before .before .before .before .before .same3 .ensures, c .before .before .before .before .before .before .before .before .before .before .before .before .before .before .before .before .before .before .before .before .before .if2 .left, ← c .before .before .before .before .before .before .before .before .before .before .before .before .before .before .before .before .before .before .before .before .before .before .same2 .ensures, c .before .before .before .before .before .before .before .before .before .before .before .before .before .before .before .before .before .before .before .before .before .before .before .before .if1 .left, ← c .before .before .before .before .before .before .before .before .before .before .before .before .before .before .before .before .before .before .before .before .before .before .before .before .before .same .ensures)
-
-code-leaf-of-requires : tie.Need-code-leaf-of-requires
-code-leaf-of-requires c κs = search needs
-
-returns-10 : tie.Need-returns-10
-unfolding named textLeaves leafOf bytes encode
-returns-10 c = simp (c .code-leaf-of .ensures, c .before .if9 .left, ← c .before .before .same9 .ensures, c .before .before .before .before .if8 .left, ← c .before .before .before .before .before .same8 .ensures, c .before .before .before .before .before .before .before .if7 .left, ← c .before .before .before .before .before .before .before .before .same7 .ensures, c .before .before .before .before .before .before .before .before .before .before .if6 .left, ← c .before .before .before .before .before .before .before .before .before .before .before .same6 .ensures, c .before .before .before .before .before .before .before .before .before .before .before .before .before .if5 .left, ← c .before .before .before .before .before .before .before .before .before .before .before .before .before .before .same5 .ensures, c .before .before .before .before .before .before .before .before .before .before .before .before .before .before .before .before .if4 .left, ← c .before .before .before .before .before .before .before .before .before .before .before .before .before .before .before .before .before .same4 .ensures, c .before .before .before .before .before .before .before .before .before .before .before .before .before .before .before .before .before .before .before .if3 .left, ← c .before .before .before .before .before .before .before .before .before .before .before .before .before .before .before .before .before .before .before .before .same3 .ensures, c .before .before .before .before .before .before .before .before .before .before .before .before .before .before .before .before .before .before .before .before .before .before .if2 .left, ← c .before .before .before .before .before .before .before .before .before .before .before .before .before .before .before .before .before .before .before .before .before .before .before .same2 .ensures, c .before .before .before .before .before .before .before .before .before .before .before .before .before .before .before .before .before .before .before .before .before .before .before .before .before .if1 .left, ← c .before .before .before .before .before .before .before .before .before .before .before .before .before .before .before .before .before .before .before .before .before .before .before .before .before .before .same .ensures)
-
 pub leaf-of-spec : {M : Type 1} → statement M
+unfolding leaves allNames namesIn bytes encode
 leaf-of-spec =
     tie.close
     (tie.spec
-    slice-aggregate-same
-    same-requires
-    returns
-    slice-aggregate-same-2
-    same-requires-2
-    returns-2
-    slice-aggregate-same-3
-    same-requires-3
-    returns-3
-    slice-aggregate-same-4
-    same-requires-4
-    returns-4
-    slice-aggregate-same-5
-    same-requires-5
-    returns-5
-    slice-aggregate-same-6
-    same-requires-6
-    returns-6
-    slice-aggregate-same-7
-    same-requires-7
-    returns-7
-    slice-aggregate-same-8
-    same-requires-8
-    returns-8
-    slice-aggregate-same-9
-    same-requires-9
-    returns-9
-    code-leaf-of-requires
-    returns-10)
+    (λ c κs. search needs)
+    (λ c. meant-at _ leaves _ (c .before .place-of .ensures) 0 (c .match .keys1))
+    (λ c. meant-at _ leaves _ (c .before .place-of .ensures) 1 (c .match .keys2))
+    (λ c. meant-at _ leaves _ (c .before .place-of .ensures) 2 (c .match .keys3))
+    (λ c. meant-at _ leaves _ (c .before .place-of .ensures) 3 (c .match .keys4))
+    (λ c. meant-at _ leaves _ (c .before .place-of .ensures) 4 (c .match .keys5))
+    (λ c. meant-at _ leaves _ (c .before .place-of .ensures) 5 (c .match .keys6))
+    (λ c. meant-at _ leaves _ (c .before .place-of .ensures) 6 (c .match .keys7))
+    (λ c. meant-at _ leaves _ (c .before .place-of .ensures) 7 (c .match .keys8))
+    (λ c. meant-at _ leaves _ (c .before .place-of .ensures) 8 (c .match .keys9))
+    (λ c. meant-at _ leaves _ (c .before .place-of .ensures) 9 (c .match .keys10))
+    (λ c. meant-at _ leaves _ (c .before .place-of .ensures) 10 (c .match .keys11))
+    (λ c. meant-at _ leaves _ (c .before .place-of .ensures) 11 (c .match .keys12))
+    (λ c. meant-at _ leaves _ (c .before .place-of .ensures) 12 (c .match .keys13))
+    (λ c. meant-at _ leaves _ (c .before .place-of .ensures) 13 (c .match .keys14))
+    (λ c. meant-at _ leaves _ (c .before .place-of .ensures) 14 (c .match .keys15))
+    (λ c. meant-at _ leaves _ (c .before .place-of .ensures) 15 (c .match .keys16))
+    (λ c. meant-none _ leaves _ (c .before .place-of .ensures) (c .match .rest)))

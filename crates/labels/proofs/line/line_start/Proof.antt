@@ -14,14 +14,8 @@ Inv-loop s k left₀ i₀ left i = lineStart s k ≡ i + lineStart (drop i s) le
 abbrev μ-loop : tie.MeasureT-loop
 μ-loop s k left₀ i₀ left i = length s - i
 
-loop-holds : tie.Need-loop-holds Inv-loop μ-loop
-loop-holds c = omega arith
-
 returns : tie.Need-returns Inv-loop μ-loop
 returns c = search start-here
-
-pass-requires : tie.Need-pass-requires Inv-loop μ-loop
-pass-requires c κs = omega arith
 
 loop-again : tie.Need-loop-again Inv-loop μ-loop
 loop-again c = search start-turn
@@ -35,10 +29,10 @@ line-start-spec =
     (tie.spec
     Inv-loop
     μ-loop
-    loop-holds
+    (λ c. omega arith)
     returns
     (λ c. search needs)
-    pass-requires
+    (λ c κs. omega arith)
     (λ c. search needs)
     (λ c. search needs)
     loop-again

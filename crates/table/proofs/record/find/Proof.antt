@@ -17,17 +17,8 @@ abbrev μ-loop : tie.MeasureT-loop
 loop-holds : tie.Need-loop-holds Inv-loop μ-loop
 loop-holds c = first-named _ _ _ _ _ _ refl
 
-is-kin-named-requires : tie.Need-is-kin-named-requires Inv-loop μ-loop
-is-kin-named-requires c κs = search needs
-
 returns : tie.Need-returns Inv-loop μ-loop
 returns c = search (found-hit, scan-hit)
-
-add-j : tie.Need-add-j Inv-loop μ-loop
-add-j c = omega arith
-
-loop-less : tie.Need-loop-less Inv-loop μ-loop
-loop-less c = omega arith
 
 loop-again : tie.Need-loop-again Inv-loop μ-loop
 loop-again c = search scan-on
@@ -42,9 +33,9 @@ find-spec =
     Inv-loop
     μ-loop
     loop-holds
-    is-kin-named-requires
+    (λ c κs. search needs)
     returns
-    add-j
-    loop-less
+    (λ c. omega arith)
+    (λ c. omega arith)
     loop-again
     returns-2)

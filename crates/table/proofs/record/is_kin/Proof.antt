@@ -3,12 +3,6 @@ use borrow.Author.Needs.{needs}
 use Rattle.table.proofs.record.is_kin.Statement.{statement}
 use Rattle.table.proofs.record.is_kin.Tie as tie
 
-field-of-requires : tie.Need-field-of-requires
-field-of-requires c κs = search needs
-
-field-at-requires : tie.Need-field-at-requires
-field-at-requires c κs = search needs
-
 returns : tie.Need-returns
 unfolding kin
 returns c = simp (c .if2 .taken, ← c .before .field-at .ensures, c .before .before .if1 .taken, ← c .before .before .before .field-of .ensures)
@@ -22,4 +16,4 @@ unfolding kin
 returns-3 c = simp (c .if1 .left, ← c .before .field-of .ensures)
 
 pub is-kin-spec : {M : Type 1} → statement M
-is-kin-spec = tie.close (tie.spec field-of-requires field-at-requires returns returns-2 returns-3)
+is-kin-spec = tie.close (tie.spec (λ c κs. search needs) (λ c κs. search needs) returns returns-2 returns-3)

@@ -3,12 +3,6 @@ use borrow.Author.Needs.{needs}
 use Rattle.table.proofs.record.is_kin_named.Statement.{statement}
 use Rattle.table.proofs.record.is_kin_named.Tie as tie
 
-is-kin-requires : tie.Need-is-kin-requires
-is-kin-requires c κs = search needs
-
-is-named-requires : tie.Need-is-named-requires
-is-named-requires c κs = search needs
-
 returns : tie.Need-returns
 unfolding kinNamed
 returns c = simp (c .is-named .ensures, c .before .if1 .taken, ← c .before .before .is-kin .ensures)
@@ -18,4 +12,4 @@ unfolding kinNamed
 returns-2 c = simp (c .if1 .left, ← c .before .is-kin .ensures)
 
 pub is-kin-named-spec : {M : Type 1} → statement M
-is-kin-named-spec = tie.close (tie.spec is-kin-requires is-named-requires returns returns-2)
+is-kin-named-spec = tie.close (tie.spec (λ c κs. search needs) (λ c κs. search needs) returns returns-2)

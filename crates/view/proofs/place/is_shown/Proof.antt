@@ -18,12 +18,9 @@ cast-len c = size-fits (c .before .before .fits .length) (c .if2 .left)
 returns-3 : tie.Need-returns-3
 returns-3 c = past _ _ _ (c .before .before .before .fits .start) (c .before .before .before .fits .length) (c .before .before .if1 .left) (c .before .if2 .left) (c .if3 .taken)
 
-sub-result : tie.Need-sub-result
-sub-result c = search needs
-
 returns-4 : tie.Need-returns-4
 returns-4 c = room _ _ _ (c .before .before .before .fits .start) (c .before .before .before .fits .length) (c .before .before .if1 .left) (c .before .if2 .left) (c .if3 .left)
 
 pub is-shown-spec : {M : Type 1} → statement M
 is-shown-spec =
-    tie.close (tie.spec returns returns-2 cast-from cast-len returns-3 sub-result returns-4)
+    tie.close (tie.spec returns returns-2 cast-from cast-len returns-3 (λ c. search needs) returns-4)

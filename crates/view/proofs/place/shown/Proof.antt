@@ -3,26 +3,8 @@ use borrow.Author.Needs.{needs}
 use Rattle.view.proofs.place.shown.Statement.{statement}
 use Rattle.view.proofs.place.shown.Tie as tie
 
-sub-result : tie.Need-sub-result
-sub-result c = search needs
-
-part-result-start : tie.Need-part-result-start
-part-result-start c = search needs
-
-part-result-end : tie.Need-part-result-end
-part-result-end c = search needs
-
 returns : tie.Need-returns
 returns c = no-start _ _ _ (c .before .before .before .fits .start) (c .before .if1 .taken) .1
-
-sub-result-2 : tie.Need-sub-result-2
-sub-result-2 c = search needs
-
-part-result-start-2 : tie.Need-part-result-start-2
-part-result-start-2 c = search needs
-
-part-result-end-2 : tie.Need-part-result-end-2
-part-result-end-2 c = search needs
 
 returns-2 : tie.Need-returns-2
 returns-2 c = no-length _ _ _ (c .before .before .before .before .fits .start) (c .before .before .before .before .fits .length) (c .before .before .if1 .left) (c .before .if2 .taken) .1
@@ -33,9 +15,6 @@ cast-part c = size-fits (c .before .before .before .fits .start) (c .before .if1
 cast-part-2 : tie.Need-cast-part-2
 cast-part-2 c = size-fits (c .before .before .before .fits .length) (c .if2 .left)
 
-part-requires : tie.Need-part-requires
-part-requires c κs = search needs
-
 returns-3 : tie.Need-returns-3
 returns-3 c = there _ _ _ (c .before .before .before .before .fits .start) (c .before .before .before .before .fits .length) (c .before .before .if1 .left) (c .before .if2 .left) _ (c .part .ensures)
 
@@ -43,15 +22,15 @@ pub shown-spec : {M : Type 1} → statement M
 shown-spec =
     tie.close
     (tie.spec
-    sub-result
-    part-result-start
-    part-result-end
+    (λ c. search needs)
+    (λ c. search needs)
+    (λ c. search needs)
     returns
-    sub-result-2
-    part-result-start-2
-    part-result-end-2
+    (λ c. search needs)
+    (λ c. search needs)
+    (λ c. search needs)
     returns-2
     cast-part
     cast-part-2
-    part-requires
+    (λ c κs. search needs)
     returns-3)
