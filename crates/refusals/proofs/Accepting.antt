@@ -1,6 +1,6 @@
 -- A table is refused by none of 3 to 9 just where it is what `Accepted` says, and a refusal names the first record that offends.
 use mathlib.Core.Path.{_≡_, refl, sym}
-use mathlib.Core.Bool.{Bool, true, false, cond, _||_, not}
+use mathlib.Core.Bool.{Bool, true, false, cond, _&&_, _||_, not}
 use mathlib.Core.List.{List}
 use mathlib.Core.Option.{Option, none, some}
 use Prim.Native.Nat.{ℕ, zero, suc, _+_, _-_, _%_, _≤_, _<_}
@@ -21,7 +21,7 @@ some≢none : {A : Type 0} {X : Type 0} {a : A} → some a ≡ none → X
 some≢none e = absurd (let w : _≡_ {A = ℕ} 0 1 = cc in omega arith)
 
 -- no record offends
-none-offends : (p : ℕ → Bool) (m j : ℕ) → firstFrom p j m ≡ none → (k : ℕ) → j ≤ k → k < j + m → p k ≡ false
+pub none-offends : (p : ℕ → Bool) (m j : ℕ) → firstFrom p j m ≡ none → (k : ℕ) → j ≤ k → k < j + m → p k ≡ false
 unfolding firstFrom
 none-offends p zero j e k h h′ = absurd (omega arith)
 none-offends p (suc m) j e k h h′ = go (p j) refl e (none-offends p m (suc j))
@@ -30,7 +30,7 @@ none-offends p (suc m) j e k h h′ = go (p j) refl e (none-offends p m (suc j))
     go true q f r = some≢none f
     go false q f r = elim (ℕ-discrete k j) [ yes z ↦ rw z q | no z ↦ r f k (omega arith) (omega arith) ]
 
-all-pass : (p : ℕ → Bool) (m j : ℕ) → ((k : ℕ) → j ≤ k → k < j + m → p k ≡ false) → firstFrom p j m ≡ none
+pub all-pass : (p : ℕ → Bool) (m j : ℕ) → ((k : ℕ) → j ≤ k → k < j + m → p k ≡ false) → firstFrom p j m ≡ none
 unfolding firstFrom
 all-pass p zero j f = refl
 all-pass p (suc m) j f = rw (f j (omega arith) (omega arith)) (all-pass p m (suc j) (λ k h h′. f k (omega arith) (omega arith)))
@@ -60,7 +60,7 @@ pub neither : (p q : Bool) → (p || q) ≡ false → (p ≡ false) × (q ≡ fa
 neither true q e = absurd (not-both refl e)
 neither false q e = (refl, e)
 
-unnot : (p : Bool) → not p ≡ false → p ≡ true
+pub unnot : (p : Bool) → not p ≡ false → p ≡ true
 unnot true e = refl
 unnot false e = absurd (not-both refl e)
 

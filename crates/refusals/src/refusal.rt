@@ -1,18 +1,16 @@
 // The refusals 3 to 9 of a table (document 01, "Where each refusal is checked"), in their order,
 // each with the first offending record.
 ghost use mathlib.Core.Path.{_≡_};
-ghost use mathlib.Core.Bool.{true, _&&_};
-ghost use Prim.Native.Nat.{_+_, _-_};
-ghost use Rattle.characters.specs.Characters.{boundary, utf8};
+ghost use mathlib.Core.Option.{none};
+ghost use Prim.Native.Nat.{_-_, _<_};
+ghost use Rattle.text.specs.Span.{clipped};
+ghost use Rattle.characters.specs.Characters.{utf8};
 ghost use Rattle.table.specs.Table.{records, firstFrom};
-ghost use Rattle.refusals.specs.Refusals.{notRoot, misplaced, beyond, outside, notUtf8, recordRefusal, sizeRefusal, refusal};
-ghost use Rattle.refusals.specs.Verdicts.{foundAt, verdict};
+ghost use Rattle.refusals.specs.Refusals.{notRoot, misplaced, beyond, outside, notUtf8, notSettlement, atRoot, refuse, recordRefusal, sizeRefusal, refusal};
+ghost use Rattle.refusals.specs.Verdicts.{whole, unsound, hasFault, foundAt, verdict};
 use table::Field;
-use table::field_at;
 use table::field_of;
 use table::is_named;
-use table::joined_text;
-use table::name;
 
 // What the checks of a table answer: it is accepted, or refused by a number for a record.
 pub enum Verdict {
@@ -20,7 +18,14 @@ pub enum Verdict {
     Refused(u32, usize),
 }
 
-// The first record that fails a check.
+// What a record is refused for, by 6, 7 or 8.
+enum Fault {
+    Misplaced,
+    Outside,
+    NotUtf8,
+}
+
+// The first record that has a fault.
 enum Offender {
     At(usize),
     Nowhere,
@@ -40,16 +45,24 @@ fn is_not_root(table: &[u32]) -> bool
     true
 }
 
+// A number of the table as a record's number.
+fn wide(x: u32) -> usize
+    ensures { λ r. ⌜ r ≡ x ⌝ }
+{
+    x as usize
+}
+
 // Whether record j is neither element nor attribute, or its parent no earlier element.
 fn is_misplaced(table: &[u32], j: usize) -> bool
+    requires { ⌜ j < records (now table) ⌝ }
     ensures { λ b. ⌜ b ≡ misplaced (now (table .entry)) j ⌝ }
 {
-    let parent = field_at(table, j, Field::Parent);
-    let earlier = parent < j;
-    if earlier {
-        let under = field_of(table, parent, Field::Kind) == 1;
+    let at = j * 6;
+    let parent = wide(table[at + 1]);
+    if parent < j {
+        let under = table[parent * 6] == 1;
         if under {
-            let kind = field_of(table, j, Field::Kind);
+            let kind = table[at];
             let element = kind == 1;
             if element {
                 return false;
@@ -84,54 +97,104 @@ fn is_outside(table: &[u32], text: &[u8], j: usize) -> bool
     is_beyond(text, text_start, text_len)
 }
 
-// Whether the name or the text of record j is not UTF-8.
-fn is_not_utf8(table: &[u32], text: &[u8], j: usize) -> bool
-    ensures { λ b. ⌜ b ≡ notUtf8 (now (table .entry)) (now (text .entry)) j ⌝ }
-{
-    if characters::is_utf8(name(table, text, j)) {
-        if characters::is_utf8(joined_text(table, text, j)) {
-            return false;
-        }
-    }
-    true
-}
-
-// Whether the text has boundaries of characters at both ends of len bytes from start on.
+// Whether len bytes from start on are inside the text, with boundaries of characters at both ends.
 fn is_whole(text: &[u8], start: u32, len: u32) -> bool
-    ensures { λ b. ⌜ b ≡ (boundary (now (text .entry)) start && boundary (now (text .entry)) (start + len)) ⌝ }
+    ensures { λ b. ⌜ b ≡ whole (now (text .entry)) start len ⌝ }
 {
+    if is_beyond(text, start, len) {
+        return false;
+    }
     if characters::is_boundary(text, start as usize) {
         return characters::is_boundary(text, start as usize + len as usize);
     }
     false
 }
 
-// Whether the name or the text of record j is not UTF-8, where the whole text is. What has boundaries
-// of characters at both ends then is, without a look at its bytes.
-fn is_cut(table: &[u32], text: &[u8], j: usize) -> bool
-    requires { ⌜ utf8 (now text) ≡ true ⌝ }
+// Whether record j is unsound: misplaced, if it is not record 0, or its name or text not whole.
+fn is_unsound(table: &[u32], text: &[u8], j: usize) -> bool
+    requires { ⌜ j < records (now table) ⌝ }
+    ensures { λ b. ⌜ b ≡ unsound (now (table .entry)) (now (text .entry)) j ⌝ }
+{
+    let at = j * 6;
+    if is_whole(text, table[at + 2], table[at + 3]) {
+        if is_whole(text, table[at + 4], table[at + 5]) {
+            let root = j == 0;
+            if root {
+                return false;
+            }
+            return is_misplaced(table, j);
+        }
+    }
+    true
+}
+
+// The first record that is unsound.
+fn first_unsound(table: &[u32], text: &[u8]) -> Offender
+    ensures { λ o. ⌜ foundAt o ≡ firstFrom (unsound (now (table .entry)) (now (text .entry))) 0 (records (now (table .entry)) - 0) ⌝ }
+{
+    let n = table.len() / 6;
+    let mut j = 0;
+    while j < n {
+        if is_unsound(table, text, j) {
+            return Offender::At(j);
+        }
+        j += 1;
+    }
+    Offender::Nowhere
+}
+
+// Whether len bytes from start on are UTF-8. Where all of the text is, what is whole is so without a look
+// at its bytes.
+fn is_readable(text: &[u8], all: bool, start: u32, len: u32) -> bool
+    requires { ⌜ all ≡ utf8 (now text) ⌝ }
+    ensures { λ b. ⌜ b ≡ utf8 (clipped (now (text .entry)) start len) ⌝ }
+{
+    if all {
+        if is_whole(text, start, len) {
+            return true;
+        }
+    }
+    characters::is_utf8(text::clip(text, start as usize, len as usize))
+}
+
+// Whether the name or the text of record j is not UTF-8.
+fn is_not_utf8(table: &[u32], text: &[u8], all: bool, j: usize) -> bool
+    requires { ⌜ all ≡ utf8 (now text) ⌝ }
     ensures { λ b. ⌜ b ≡ notUtf8 (now (table .entry)) (now (text .entry)) j ⌝ }
 {
     let name_start = field_of(table, j, Field::NameStart);
     let name_len = field_of(table, j, Field::NameLength);
-    if is_whole(text, name_start, name_len) {
+    if is_readable(text, all, name_start, name_len) {
         let text_start = field_of(table, j, Field::TextStart);
         let text_len = field_of(table, j, Field::TextLength);
-        if is_whole(text, text_start, text_len) {
+        if is_readable(text, all, text_start, text_len) {
             return false;
         }
     }
-    is_not_utf8(table, text, j)
+    true
 }
 
-// The first later record that is misplaced.
-fn first_misplaced(table: &[u32]) -> Offender
-    ensures { λ o. ⌜ foundAt o ≡ firstFrom (misplaced (now (table .entry))) 1 (records (now (table .entry)) - 1) ⌝ }
+// Whether record j has a fault.
+fn has_fault(table: &[u32], text: &[u8], all: bool, fault: Fault, j: usize) -> bool
+    requires { ⌜ (all ≡ utf8 (now text)) × (j < records (now table)) ⌝ }
+    ensures { λ b. ⌜ b ≡ hasFault fault (now (table .entry)) (now (text .entry)) j ⌝ }
+{
+    match fault {
+        Fault::Misplaced => is_misplaced(table, j),
+        Fault::Outside => is_outside(table, text, j),
+        Fault::NotUtf8 => is_not_utf8(table, text, all, j),
+    }
+}
+
+// The first record from `from` on that has a fault.
+fn first_with(table: &[u32], text: &[u8], all: bool, fault: Fault, from: usize) -> Offender
+    requires { ⌜ all ≡ utf8 (now text) ⌝ }
+    ensures { λ o. ⌜ foundAt o ≡ firstFrom (hasFault fault (now (table .entry)) (now (text .entry))) from (records (now (table .entry)) - from) ⌝ }
 {
     let n = table.len() / 6;
-    let mut j = 1;
+    let mut j = from;
     while j < n {
-        if is_misplaced(table, j) {
+        if has_fault(table, text, all, fault, j) {
             return Offender::At(j);
         }
         j += 1;
@@ -139,83 +202,49 @@ fn first_misplaced(table: &[u32]) -> Offender
     Offender::Nowhere
 }
 
-// The first record with a name or a text outside the text.
-fn first_outside(table: &[u32], text: &[u8]) -> Offender
-    ensures { λ o. ⌜ foundAt o ≡ firstFrom (outside (now (table .entry)) (now (text .entry))) 0 (records (now (table .entry)) - 0) ⌝ }
+// Refusal 9.
+fn check_name(table: &[u32], text: &[u8]) -> Verdict
+    ensures { λ r. ⌜ verdict r ≡ refuse 9 (atRoot (notSettlement (now (table .entry)) (now (text .entry)))) none ⌝ }
 {
-    let n = table.len() / 6;
-    let mut j = 0;
-    while j < n {
-        if is_outside(table, text, j) {
-            return Offender::At(j);
-        }
-        j += 1;
-    }
-    Offender::Nowhere
-}
-
-// The first record with a name or a text that is not UTF-8, where the whole text is.
-fn first_cut(table: &[u32], text: &[u8]) -> Offender
-    requires { ⌜ utf8 (now text) ≡ true ⌝ }
-    ensures { λ o. ⌜ foundAt o ≡ firstFrom (notUtf8 (now (table .entry)) (now (text .entry))) 0 (records (now (table .entry)) - 0) ⌝ }
-{
-    let n = table.len() / 6;
-    let mut j = 0;
-    while j < n {
-        if is_cut(table, text, j) {
-            return Offender::At(j);
-        }
-        j += 1;
-    }
-    Offender::Nowhere
-}
-
-// The first record with a name or a text that is not UTF-8, each read by itself.
-fn first_not_utf8_each(table: &[u32], text: &[u8]) -> Offender
-    ensures { λ o. ⌜ foundAt o ≡ firstFrom (notUtf8 (now (table .entry)) (now (text .entry))) 0 (records (now (table .entry)) - 0) ⌝ }
-{
-    let n = table.len() / 6;
-    let mut j = 0;
-    while j < n {
-        if is_not_utf8(table, text, j) {
-            return Offender::At(j);
-        }
-        j += 1;
-    }
-    Offender::Nowhere
-}
-
-// The first record with a name or a text that is not UTF-8. One pass over a text that is UTF-8, as most
-// are, spares reading each name and text by itself.
-fn first_not_utf8(table: &[u32], text: &[u8]) -> Offender
-    ensures { λ o. ⌜ foundAt o ≡ firstFrom (notUtf8 (now (table .entry)) (now (text .entry))) 0 (records (now (table .entry)) - 0) ⌝ }
-{
-    if characters::is_utf8(text) {
-        return first_cut(table, text);
-    }
-    first_not_utf8_each(table, text)
-}
-
-// The refusals 6 to 9, each over all records before the next.
-fn check_records(table: &[u32], text: &[u8]) -> Verdict
-    ensures { λ r. ⌜ verdict r ≡ recordRefusal (now (table .entry)) (now (text .entry)) ⌝ }
-{
-    let misplaced = first_misplaced(table);
-    if let Offender::At(j) = misplaced {
-        return Verdict::Refused(6, j);
-    }
-    let outside = first_outside(table, text);
-    if let Offender::At(j) = outside {
-        return Verdict::Refused(7, j);
-    }
-    let unreadable = first_not_utf8(table, text);
-    if let Offender::At(j) = unreadable {
-        return Verdict::Refused(8, j);
-    }
     if is_named(table, text, b"ApplicableHeaderTradeSettlement", 0) {
         return Verdict::Accepted;
     }
     Verdict::Refused(9, 0)
+}
+
+// The refusals 6 to 9, each over all records before the next.
+fn check_each(table: &[u32], text: &[u8], all: bool) -> Verdict
+    requires { ⌜ all ≡ utf8 (now text) ⌝ }
+    ensures { λ r. ⌜ verdict r ≡ recordRefusal (now (table .entry)) (now (text .entry)) ⌝ }
+{
+    let misplaced = first_with(table, text, all, Fault::Misplaced, 1);
+    if let Offender::At(j) = misplaced {
+        return Verdict::Refused(6, j);
+    }
+    let outside = first_with(table, text, all, Fault::Outside, 0);
+    if let Offender::At(j) = outside {
+        return Verdict::Refused(7, j);
+    }
+    let unreadable = first_with(table, text, all, Fault::NotUtf8, 0);
+    if let Offender::At(j) = unreadable {
+        return Verdict::Refused(8, j);
+    }
+    check_name(table, text)
+}
+
+// The same in one pass where the text is UTF-8 and all records are sound.
+fn check_records(table: &[u32], text: &[u8]) -> Verdict
+    ensures { λ r. ⌜ verdict r ≡ recordRefusal (now (table .entry)) (now (text .entry)) ⌝ }
+{
+    let all = characters::is_utf8(text);
+    if all {
+        let unsound = first_unsound(table, text);
+        if let Offender::Nowhere = unsound {
+            return check_name(table, text);
+        }
+        return check_each(table, text, all);
+    }
+    check_each(table, text, all)
 }
 
 // The refusals 4 to 9 of a table of some whole records.
