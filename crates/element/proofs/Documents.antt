@@ -6,10 +6,11 @@ use mathlib.Core.Option.{Option, none, some}
 use Prim.Native.Nat.{ℕ, zero, suc, _+_, _-_, _≤_, _<_, min}
 use native.Mathlib.Omega.{arith}
 use native.Mathlib.Nat.{add-zero}
-use borrow.Author.Tests.{eq-eqb, ne-eqb, le-leb, lt-leb, eqb-true, leb-true, leb-false}
-use lib.Dec.{eqb, leb}
-use lib.ListN.{length, take, drop, length-drop}
+use borrow.Author.Tests.{eq-eqb, ne-eqb, le-leb, lt-leb, eqb-true, leb-true, leb-false, ltb-true}
+use lib.Dec.{eqb, leb, ltb}
+use lib.ListN.{length, getD, take, drop, replicate, length-drop}
 use lib.Seq.{take-take, drop-drop}
+use Rattle.text.specs.Place.{allNames, place}
 use Rattle.text.specs.Span.{clipped, cut}
 use Rattle.text.specs.declared.span.Span.{Span}
 use Rattle.characters.specs.Trim.{trimmed, trimOf}
@@ -17,11 +18,13 @@ use Rattle.characters.proofs.Trims.{trimmed-in}
 use Rattle.amount.specs.Decimal.{empty}
 use Rattle.table.specs.Table.{cell, nameOf, textOf, named, found, firstOf}
 use Rattle.links.specs.Links.{linked, roomy, linkAll, Blank}
+use Rattle.links.specs.Firsts.{keepAll}
 use Rattle.links.proofs.Linking.{linked-kids, linked-attrs}
+use Rattle.links.proofs.FirstKids.{first-of-each}
 use Rattle.report.specs.Rows.{Place}
 use Rattle.settlement.specs.Document.{Doc, maybe, or}
 use Rattle.settlement.specs.TableDoc.{textAt, ownTextAt, shows, tableDoc}
-use Rattle.settlement.specs.Values.{trimIn, filled, textIn, ownText, textBytes, first, kid, attribute}
+use Rattle.settlement.specs.Values.{trimIn, filled, textIn, ownText, textBytes, first, kid, kidText, attribute}
 use Rattle.element.specs.LinkDoc.{linkDoc}
 use Rattle.element.specs.Trimmed.{trimmedAt}
 
@@ -164,6 +167,15 @@ module _ (t x l : List ℕ) where
   pub kid-is : (n : ℕ) (w : List ℕ) → firstOf (named t x w) (linked l 0 n) ≡ kid D n w
   unfolding kid
   kid-is n w = first-is w (linked l 0 n)
+
+  -- what one pass over the children keeps at the place of a name
+  pub kid-kept : {ks : List ℕ} (n : ℕ) (w v : List ℕ) (k m : ℕ) → ks ≡ keepAll t x l n w (replicate m 0) → place (allNames w) v ≡ k → ltb k (length (allNames w)) ≡ true → k < m → found (getD ks k 0) ≡ kid D n v
+  kid-kept n w v k m q e h b = rw q (first-of-each t x l w v k e (ltb-true k (length (allNames w)) h) n m b ∙ kid-is n v)
+
+  -- the text of a child that was looked for by a name
+  pub kid-text-is : {v : Option Place} {o : Option ℕ} (mode n : ℕ) (w : List ℕ) → v ≡ maybe none (textIn D mode) o → o ≡ kid D n w → v ≡ kidText D mode n w
+  unfolding kidText
+  kid-text-is mode n w q h = q ∙ rw h
 
   -- what the code made of a record's numbers
   pub text-in-made : {v : Option Place} {a n : ℕ} (mode r : ℕ) → a ≡ cell t r 4 → n ≡ cell t r 5 → v ≡ trimmedAt x mode a n → v ≡ textIn D mode r

@@ -6,13 +6,14 @@
 // all bytes: a record that the table does not have reads as zeros. No public function has a
 // `requires`, and the crate assumes nothing of its own.
 mod attributes;
-mod children;
+mod kids;
 mod texts;
 
 pub use attributes::attribute;
 pub use attributes::attribute_text;
-pub use children::kid;
-pub use children::kid_text;
+pub use kids::child_text;
+pub use kids::kid;
+pub use kids::kid_text;
 pub use texts::name;
 pub use texts::own_text;
 pub use texts::raw_text;

@@ -40,60 +40,50 @@ pub enum Kind {
     Other,
 }
 
-// What a name stands for that is none of the first seven.
-fn later_kind(name: &[u8]) -> Kind
-    ensures { λ r. ⌜ kindIs r ≡ meant other (drop 7 kinds) (now (name .entry)) ⌝ }
+// What a name stands for that makes no row.
+fn other_kind(name: &[u8]) -> Kind
+    ensures { λ r. ⌜ kindIs r ≡ meant other (drop 4 kinds) (now (name .entry)) ⌝ }
 {
-    if text::same(name, b"BillingSpecifiedPeriod") {
-        return Kind::Billing(BillingKind::Period);
+    let names = b"\x13CreditorReferenceID\
+        \x10PaymentReference\
+        \x0fTaxCurrencyCode\
+        \x13InvoiceCurrencyCode\
+        \x0fPayeeTradeParty\
+        \x24SpecifiedTradeSettlementPaymentMeans\
+        \x16BillingSpecifiedPeriod\
+        \x1aSpecifiedTradePaymentTerms\
+        \x2fSpecifiedTradeSettlementHeaderMonetarySummation\
+        \x29ReceivableSpecifiedTradeAccountingAccount";
+    match text::place_of(names, name) {
+        0 => Kind::Plain(PlainKind::CreditorReference),
+        1 => Kind::Plain(PlainKind::PaymentReference),
+        2 => Kind::Plain(PlainKind::TaxCurrency),
+        3 => Kind::Plain(PlainKind::InvoiceCurrency),
+        4 => Kind::Plain(PlainKind::Payee),
+        5 => Kind::Billing(BillingKind::PaymentMeans),
+        6 => Kind::Billing(BillingKind::Period),
+        7 => Kind::Billing(BillingKind::PaymentTerms),
+        8 => Kind::Summation,
+        9 => Kind::Plain(PlainKind::Accounting),
+        _ => Kind::Other,
     }
-    if text::same(name, b"SpecifiedTradeAllowanceCharge") {
-        return Kind::Row(RowKind::AllowanceCharge);
-    }
-    if text::same(name, b"SpecifiedLogisticsServiceCharge") {
-        return Kind::Row(RowKind::LogisticsCharge);
-    }
-    if text::same(name, b"SpecifiedTradePaymentTerms") {
-        return Kind::Billing(BillingKind::PaymentTerms);
-    }
-    if text::same(name, b"SpecifiedTradeSettlementHeaderMonetarySummation") {
-        return Kind::Summation;
-    }
-    if text::same(name, b"InvoiceReferencedDocument") {
-        return Kind::Row(RowKind::PrecedingInvoice);
-    }
-    if text::same(name, b"ReceivableSpecifiedTradeAccountingAccount") {
-        return Kind::Plain(PlainKind::Accounting);
-    }
-    Kind::Other
 }
 
-// What a name stands for.
+// What a name stands for. Most children make rows, and the fewer names a table has the sooner it is made.
 fn kind_named(name: &[u8]) -> Kind
     ensures { λ r. ⌜ kindIs r ≡ kindNamed (now (name .entry)) ⌝ }
 {
-    if text::same(name, b"CreditorReferenceID") {
-        return Kind::Plain(PlainKind::CreditorReference);
+    let names = b"\x12ApplicableTradeTax\
+        \x1dSpecifiedTradeAllowanceCharge\
+        \x1fSpecifiedLogisticsServiceCharge\
+        \x19InvoiceReferencedDocument";
+    match text::place_of(names, name) {
+        0 => Kind::Row(RowKind::TradeTax),
+        1 => Kind::Row(RowKind::AllowanceCharge),
+        2 => Kind::Row(RowKind::LogisticsCharge),
+        3 => Kind::Row(RowKind::PrecedingInvoice),
+        _ => other_kind(name),
     }
-    if text::same(name, b"PaymentReference") {
-        return Kind::Plain(PlainKind::PaymentReference);
-    }
-    if text::same(name, b"TaxCurrencyCode") {
-        return Kind::Plain(PlainKind::TaxCurrency);
-    }
-    if text::same(name, b"InvoiceCurrencyCode") {
-        return Kind::Plain(PlainKind::InvoiceCurrency);
-    }
-    if text::same(name, b"PayeeTradeParty") {
-        return Kind::Plain(PlainKind::Payee);
-    }
-    if text::same(name, b"SpecifiedTradeSettlementPaymentMeans") {
-        return Kind::Billing(BillingKind::PaymentMeans);
-    }
-    if text::same(name, b"ApplicableTradeTax") {
-        return Kind::Row(RowKind::TradeTax);
-    }
-    later_kind(name)
 }
 
 // What element c is.

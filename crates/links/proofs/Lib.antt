@@ -1,2 +1,3 @@
 pub mod Linking
 pub mod Chains
+pub mod FirstKids

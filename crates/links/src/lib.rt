@@ -4,8 +4,10 @@
 // Every function takes all numbers and all bytes: a link past the end is 0, none, and where there is
 // no room for every record nothing is linked. No public function has a `requires`, and the crate
 // assumes nothing of its own.
+mod firsts;
 mod links;
 
+pub use firsts::first_children;
 pub use links::attribute;
 pub use links::first_child;
 pub use links::first_of;

@@ -1,4 +1,4 @@
--- What a name stands for, test by test.
+-- What a name makes of what it stands for.
 use mathlib.Core.Path.{_≡_, refl, sym, ap, _∙_}
 use mathlib.Core.Bool.{Bool, true, false, cond, _||_, true≢false}
 use mathlib.Core.List.{List, [], _∷_}
@@ -9,23 +9,6 @@ use Rattle.text.specs.Utf8.{bytes}
 use Rattle.text.proofs.Orders.{equal-is}
 use Rattle.settlement.specs.Kinds.{meant}
 use Rattle.settlement.specs.Meetings.{isListed}
-
-module _ {A : Type 0} (a : A) (s : List ℕ) where
-  module _ (n : String) (k : A) (cs : List (String × A)) {b : Bool} (e : b ≡ equal s (bytes n)) where
-    -- this is the name
-    pub meant-here : b ≡ true → k ≡ meant a ((n, k) ∷ cs) s
-    unfolding meant
-    meant-here t = rw (← e, t)
-
-    -- it is a later one
-    pub meant-later : {j : A} → b ≡ false → j ≡ meant a cs s → j ≡ meant a ((n, k) ∷ cs) s
-    unfolding meant
-    meant-later f q = rw (← e, f) q
-
-  -- it is none
-  pub meant-none : a ≡ meant a [] s
-  unfolding meant
-  meant-none = refl
 
 -- what a name makes, by a test of names
 module _ {A B : Type 0} (a : A) (g : A → B) (t : List ℕ → Bool) (v z : B) where

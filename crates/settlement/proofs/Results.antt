@@ -23,7 +23,7 @@ use Rattle.settlement.specs.TableDoc.{shows, tableDoc}
 use Rattle.settlement.specs.Outcome.{Room, Outcome, refused, read, callRefusal, unless, outcome}
 use Rattle.settlement.specs.Result.{termsRow, blankTerms, resultOf}
 
--- the counts times 14, 6 and 3 are the lengths of the rows
+-- the counts times the widths are the lengths of the rows
 pub held-numbers : (o : Outcome) → heldWidth * resultOf o .heldCount ≡ length (resultOf o .held)
 unfolding resultOf
 held-numbers (refused n r) = refl

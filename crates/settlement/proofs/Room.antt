@@ -12,7 +12,7 @@ use lib.ListN.{length, length-append}
 use Rattle.table.specs.Table.{records, kids}
 use Rattle.refusals.specs.Refusals.{refusal}
 use Rattle.refusals.proofs.Accepting.{accepted-is, neither}
-use Rattle.report.specs.Encoding.{heldWidth, entryWidth, unmappedWidth}
+use Rattle.report.specs.Encoding.{unmappedWidth, heldRoom, entryRoom, unmappedRoom}
 use Rattle.report.specs.Rows.{Place}
 use Rattle.settlement.specs.Document.{Doc}
 use Rattle.settlement.specs.Kinds.{creditorReference, paymentMeans, paymentTerms, summation}
@@ -134,13 +134,13 @@ pub outcome-within : (L : Lent) (m : Room) (t x : List ℕ) (r : Reading Place) 
 outcome-within L m t x r e = rw (outcome-read L m t x r e) (reading-within L t x (accepted-is t x (accepted L m t x r e) .some-records))
 
 -- the room that refusal 10 asks for, in numbers
-has-numbers : (m : Room) (t : List ℕ) → cramped m t ≡ false → (heldWidth * records t ≤ m .held) × (4 * entryWidth * records t ≤ m .entries) × (unmappedWidth * records t ≤ m .unmapped)
+has-numbers : (m : Room) (t : List ℕ) → cramped m t ≡ false → (heldRoom * records t ≤ m .held) × (entryRoom * records t ≤ m .entries) × (unmappedRoom * records t ≤ m .unmapped)
 unfolding cramped
 has-numbers m t r =
     let n = records t in
-    let c = neither (ltb (m .held) (heldWidth * n)) (ltb (m .entries) (4 * entryWidth * n) || ltb (m .unmapped) (unmappedWidth * n)) r in
-    let d = neither (ltb (m .entries) (4 * entryWidth * n)) (ltb (m .unmapped) (unmappedWidth * n)) (c .1) in
-    (ltb-false (m .held) (heldWidth * n) (c .0), ltb-false (m .entries) (4 * entryWidth * n) (d .0), ltb-false (m .unmapped) (unmappedWidth * n) (d .1))
+    let c = neither (ltb (m .held) (heldRoom * n)) (ltb (m .entries) (entryRoom * n) || ltb (m .unmapped) (unmappedRoom * n)) r in
+    let d = neither (ltb (m .entries) (entryRoom * n)) (ltb (m .unmapped) (unmappedRoom * n)) (c .1) in
+    (ltb-false (m .held) (heldRoom * n) (c .0), ltb-false (m .entries) (entryRoom * n) (d .0), ltb-false (m .unmapped) (unmappedRoom * n) (d .1))
 
 -- where a table is accepted and the lists have the room that refusal 10 asks for, all rows fit into them
 pub reading-fits : (L : Lent) (m : Room) (t x : List ℕ) → refusal t x ≡ none → cramped m t ≡ false → Fits m (reading L (tableDoc t x) 0)

@@ -35,7 +35,7 @@ use Rattle.settlement.specs.Walk.{said}
 use Rattle.settlement.specs.Settlement.{quiet, own, kindOf, seen, act, step, saysOf, holdsOf, debited, debitOf, lateOf, after, readingOf, reading}
 use Rattle.settlement.specs.TableDoc.{textAt, ownTextAt, shows, tableDoc}
 use Rattle.settlement.specs.Tree.{Tree, node, nothing, treeKids, treeDoc, element, tree, treeOf}
-use Rattle.settlement.specs.Outcome.{Room, read, unknownMode, unknownRules, cramped, callRefusal, outcome, shown}
+use Rattle.settlement.specs.Outcome.{Room, roomFor, read, unknownMode, unknownRules, cramped, callRefusal, outcome, shown}
 use Rattle.settlement.specs.Shown.{mapReading}
 use Rattle.settlement.specs.Exchange.{LeftOut, Exchanged}
 use Rattle.settlement.specs.Edges.{leaf, branch}
@@ -46,7 +46,7 @@ lent = record { mode = 0; rules = 4095; currency = []; extension = false }
 
 -- room for twelve records
 abbrev pub room : Room
-room = record { held = 168; entries = 288; unmapped = 36 }
+room = roomFor 12
 
 -- a VAT breakdown before an allowance; its amount has currencyID twice, of which the earlier counts
 unfoldable pub left-table : List ℕ

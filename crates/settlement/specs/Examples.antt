@@ -9,12 +9,12 @@ use Rattle.text.specs.Utf8.{bytes}
 use Rattle.names.specs.declared.message.Message.the-variants as Message
 use Rattle.names.specs.declared.path.Path.the-variants as Path
 use Rattle.names.specs.declared.term.Term.the-variants as Term
-use Rattle.report.specs.Encoding.{absent}
+use Rattle.report.specs.Encoding.{absent, filled}
 use Rattle.report.specs.Rows.{transfer, allowance}
 use Rattle.settlement.specs.Shapes.{Totals, Reading}
 use Rattle.settlement.specs.Values.{Lent, site, grouped, entry}
 use Rattle.settlement.specs.Settlement.{reading}
-use Rattle.settlement.specs.Outcome.{Room}
+use Rattle.settlement.specs.Outcome.{Room, roomFor}
 use Rattle.settlement.specs.Result.{Result, answerRow}
 use Rattle.settlement.specs.Tree.{Tree, treeDoc}
 use Rattle.settlement.specs.Edges.{leaf, inCurrency, branch, settlement, lent}
@@ -51,7 +51,7 @@ otherText = bytes "DE1IBANIDPayeePartyCreditorFinancialAccountFooSpecifiedTradeS
 
 -- the room that six records ask for
 abbrev pub exampleRoom : Room
-exampleRoom = record { held = 84; entries = 144; unmapped = 18 }
+exampleRoom = roomFor 6
 
 -- its answer and its rows in numbers: BT-5 at 50, BG-16, one transfer with its account at 129, Foo at 132 under the settlement
 pub record ExampleNumbers (r : Result) : Type 0 where
@@ -63,7 +63,7 @@ pub record ExampleNumbers (r : Result) : Type 0 where
       pos 1 ∷ absent ∷ pos 0 ∷ absent ∷ pos 0 ∷ absent ∷ pos 0 ∷
       pos 0 ∷ absent ∷ pos 0 ∷ absent ∷ pos 0 ∷ pos 0 ∷ absent ∷ pos 0 ∷ absent ∷ pos 0 ∷ absent ∷ pos 0 ∷
       pos 0 ∷ pos 0 ∷ pos 0 ∷ pos 0 ∷ pos 0 ∷ pos 0 ∷ pos 0 ∷ pos 0 ∷ pos 0 ∷ pos 0 ∷ pos 0 ∷ pos 0 ∷ pos 0 ∷ pos 0 ∷ pos 0 ∷ pos 0 ∷ []
-  pub held : r .held ≡ pos 1 ∷ pos 129 ∷ pos 3 ∷ absent ∷ pos 0 ∷ absent ∷ pos 0 ∷ pos 0 ∷ pos 0 ∷ pos 0 ∷ pos 0 ∷ pos 0 ∷ pos 0 ∷ pos 0 ∷ []
+  pub held : r .held ≡ filled (pos 1 ∷ pos 129 ∷ pos 3 ∷ absent ∷ pos 0 ∷ absent ∷ pos 0 ∷ [])
   pub entries : r .entries ≡ []
   pub unmapped : r .unmapped ≡ pos 1 ∷ pos 132 ∷ pos 3 ∷ []
 

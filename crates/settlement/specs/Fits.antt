@@ -3,14 +3,14 @@ use mathlib.Core.List.{List}
 use Prim.Native.Nat.{ℕ, _*_, _≤_}
 use lib.ListN.{length}
 use Rattle.table.specs.Table.{records}
-use Rattle.report.specs.Encoding.{heldWidth, entryWidth, unmappedWidth}
+use Rattle.report.specs.Encoding.{heldWidth, entryWidth, unmappedWidth, recordEntries}
 use Rattle.settlement.specs.Shapes.{Reading}
 use Rattle.settlement.specs.Outcome.{Room}
 
 -- a held row, four entries and an unmapped name for each record, at most
 pub record Within {X : Type 0} (t : List ℕ) (r : Reading X) : Type 0 where
   pub held : length (r .held) ≤ records t
-  pub entries : length (r .entries) ≤ 4 * records t
+  pub entries : length (r .entries) ≤ recordEntries * records t
   pub unmapped : length (r .unmapped) ≤ records t
 
 -- the numbers of all rows fit into the three lent lists

@@ -3,8 +3,7 @@ use mathlib.Core.Bool.{Bool, true, false, cond}
 use mathlib.Core.List.{List, [], _∷_}
 use Prim.Native.Nat.{ℕ}
 use Prim.Native.String.{String}
-use Rattle.text.specs.Order.{equal}
-use Rattle.text.specs.Utf8.{bytes}
+unfoldable pub use Rattle.text.specs.Place.{meant}
 
 -- the fourteen kinds that are read, and any other
 pub data Kind : Type 0 where
@@ -25,27 +24,22 @@ sameKind a b = isYes (Kind-discrete a b)
 unfoldable pub home : Kind → Kind
 home k = cond (sameKind k logisticsCharge) allowanceCharge k
 
--- what a name stands for in a list, and a where the list does not have it
-unfoldable pub meant : {A : Type 0} → A → List (String × A) → List ℕ → A
-meant a [] s = a
-meant a (c ∷ cs) s = cond (equal s (bytes (c .0))) (c .1) (meant a cs s)
-
--- the fourteen names that are read; any other is unmapped
+-- the fourteen names that are read, those of rows first; any other is unmapped
 unfoldable pub kinds : List (String × Kind)
 kinds =
+    ("ApplicableTradeTax", tradeTax) ∷
+    ("SpecifiedTradeAllowanceCharge", allowanceCharge) ∷
+    ("SpecifiedLogisticsServiceCharge", logisticsCharge) ∷
+    ("InvoiceReferencedDocument", precedingInvoice) ∷
     ("CreditorReferenceID", creditorReference) ∷
     ("PaymentReference", paymentReference) ∷
     ("TaxCurrencyCode", taxCurrency) ∷
     ("InvoiceCurrencyCode", invoiceCurrency) ∷
     ("PayeeTradeParty", payee) ∷
     ("SpecifiedTradeSettlementPaymentMeans", paymentMeans) ∷
-    ("ApplicableTradeTax", tradeTax) ∷
     ("BillingSpecifiedPeriod", period) ∷
-    ("SpecifiedTradeAllowanceCharge", allowanceCharge) ∷
-    ("SpecifiedLogisticsServiceCharge", logisticsCharge) ∷
     ("SpecifiedTradePaymentTerms", paymentTerms) ∷
     ("SpecifiedTradeSettlementHeaderMonetarySummation", summation) ∷
-    ("InvoiceReferencedDocument", precedingInvoice) ∷
     ("ReceivableSpecifiedTradeAccountingAccount", accounting) ∷
     []
 

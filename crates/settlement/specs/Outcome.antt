@@ -6,7 +6,7 @@ use Prim.Native.Nat.{ℕ, _*_}
 use lib.Dec.{ltb}
 use Rattle.table.specs.Table.{records}
 use Rattle.refusals.specs.Refusals.{refuse, atRoot, refusal}
-use Rattle.report.specs.Encoding.{heldWidth, entryWidth, unmappedWidth}
+use Rattle.report.specs.Encoding.{heldRoom, entryRoom, unmappedRoom}
 use Rattle.report.specs.Rows.{Place}
 use Rattle.settlement.specs.Shapes.{Reading}
 use Rattle.settlement.specs.Values.{Lent}
@@ -21,6 +21,10 @@ pub record Room : Type 0 where
   pub entries : ℕ
   pub unmapped : ℕ
 
+-- what refusal 10 asks for: a held row, four entries and an unmapped row for each record of a table
+abbrev pub roomFor : ℕ → Room
+roomFor n = record { held = heldRoom * n; entries = entryRoom * n; unmapped = unmappedRoom * n }
+
 -- a refusal with its number and record, or a reading
 pub data Outcome : Type 0 where
   refused : (number place : ℕ) → Outcome
@@ -34,9 +38,9 @@ unknownMode L = ltb 1 (L .mode)
 unfoldable pub unknownRules : Lent → Bool
 unknownRules L = ltb 4095 (L .rules)
 
--- 10: room below 14 times the records (held), 24 times (entries: four of them) or 3 times (unmapped)
+-- 10: less room than that
 unfoldable pub cramped : Room → List ℕ → Bool
-cramped m t = ltb (m .held) (heldWidth * records t) || (ltb (m .entries) (4 * entryWidth * records t) || ltb (m .unmapped) (unmappedWidth * records t))
+cramped m t = let n = roomFor (records t) in ltb (m .held) (n .held) || (ltb (m .entries) (n .entries) || ltb (m .unmapped) (n .unmapped))
 
 -- the first refusal of all ten, with its record
 unfoldable pub callRefusal : Lent → Room → List ℕ → List ℕ → Option (ℕ × ℕ)

@@ -1,8 +1,8 @@
 use mathlib.Core.Path.{_∙_}
 use borrow.Author.Needs.{needs}
 use Rattle.element.proofs.Documents.{kid-is}
-use Rattle.element.proofs.children.kid.Statement.{statement}
-use Rattle.element.proofs.children.kid.Tie as tie
+use Rattle.element.proofs.kids.kid.Statement.{statement}
+use Rattle.element.proofs.kids.kid.Tie as tie
 
 returns : tie.Need-returns
 returns c = c .first-child .ensures ∙ kid-is _ _ _ _ _
