@@ -2,9 +2,17 @@
 //! a rate, without one, and with an amount that cannot be read. docs/LAYOUT.md has the places. Panics where
 //! a number is not as it must be.
 
+/// The numbers of a table's record, of the answer, and of the rows of the lists, as include/rulzhamm.h has
+/// them.
+const RECORD: usize = 6;
+const ANSWER: usize = 65;
+const HELD: usize = 14;
+const ENTRY: usize = 6;
+const UNMAPPED: usize = 3;
+
 /// The reader's answer and its three lists.
 struct Reading {
-    answer: [i64; 65],
+    answer: [i64; ANSWER],
     held: Vec<i64>,
     entries: Vec<i64>,
     unmapped: Vec<i64>,
@@ -28,18 +36,18 @@ unsafe extern "C" {
         entries_len: usize,
         unmapped: *mut i64,
         unmapped_len: usize,
-        answer: *mut [i64; 65],
+        answer: *mut [i64; ANSWER],
     );
 }
 
 /// Reads a settlement in mode 0, with lists of the room that refusal 10 asks for.
 fn read(table: &[u32], text: &[u8], currency: &[u8], identifier: &[u8], rules: u32) -> Reading {
-    let records = table.len() / 6;
+    let records = table.len() / RECORD;
     let mut reading = Reading {
-        answer: [0; 65],
-        held: vec![0; 14 * records],
-        entries: vec![0; 24 * records],
-        unmapped: vec![0; 3 * records],
+        answer: [0; ANSWER],
+        held: vec![0; HELD * records],
+        entries: vec![0; 4 * ENTRY * records],
+        unmapped: vec![0; UNMAPPED * records],
     };
     // Every pointer leads to as many elements as its length says, and nothing lent overlaps.
     unsafe {
@@ -125,13 +133,13 @@ fn vat_breakdown() {
     // Rule BR-12 alone: of what is absent only BT-106 makes an entry.
     let reading = read(&table, &text, b"EUR", b"", 1);
     assert_eq!(reading.answer[2..5], [2, 2, 0], "held rows, entries, unmapped rows");
-    let (first, second) = (&reading.held[..14], &reading.held[14..28]);
+    let (first, second) = (&reading.held[..HELD], &reading.held[HELD..2 * HELD]);
     assert_eq!(first[..3], [2, 1000, 0], "VAT: taxable amount and tax");
     assert_eq!(shown(&text, &first[3..5]), Some(&b"S"[..]), "its category");
     assert_eq!(first[5..7], [-1950, 2], "its rate, unscaled, and the scale");
     assert_eq!(shown(&text, &second[3..5]), Some(&b""[..]), "a category that is absent is empty");
     assert_eq!(second[5..7], [0, -1], "no rate");
-    let (malformed, absent) = (&reading.entries[..6], &reading.entries[6..12]);
+    let (malformed, absent) = (&reading.entries[..ENTRY], &reading.entries[ENTRY..2 * ENTRY]);
     assert_eq!(malformed[..4], [4, 11, 11, 1], "over two decimals: BG-23[1]/BT-117");
     assert_eq!(shown(&text, &malformed[4..6]), Some(&b"1.000"[..]), "the value");
     assert_eq!(absent[..], [9, 38, 1, -1, -1, 0], "BT-106 is absent: no index, no value");

@@ -8,14 +8,15 @@ use native.Mathlib.Omega.{arith}
 use lib.Dec.{eqb}
 use lib.IntN.{ℤ, pos, negsuc}
 use lib.Signed.{mag}
-use lib.ListN.{length, getD, drop, length-append, length-take, length-drop, length-map}
+use lib.ListN.{length, drop, length-append, length-take, length-drop, length-map}
 use lib.Seq.{getD-drop}
 use Rattle.text.specs.Utf8.{bytes, encode}
 use Rattle.text.specs.Span.{clipped}
+use Rattle.report.specs.Columns.{Column, text, plain, amount, percent, date, width}
 use Rattle.decimals.specs.Decimal.{decimal, signed, natural}
 use Rattle.decimals.proofs.Room.{decimal-length, signed-length}
 use Rattle.fields.specs.Line.{printed, printable, field, percentage, tabbed}
-use Rattle.fields.specs.Columns.{Column, width, textShown, amountShown, percentShown, dateShown, shown, fields}
+use Rattle.fields.specs.Columns.{cell, textShown, amountShown, percentShown, dateShown, shown, fields}
 
 pub printable-length : (s : List ℕ) → length (printable s) ≡ length s
 unfolding printable
@@ -53,29 +54,28 @@ date-length (negsuc n) f = omega arith
 
 -- room for what a column shows and its tab, in a line about a text of n bytes
 abbrev pub columnRoom : ℕ → Column → ℕ
-columnRoom n Column.text = n + 2
-columnRoom n Column.number = 21
-columnRoom n Column.amount = 21
-columnRoom n Column.percent = 41
-columnRoom n Column.date = 20
+columnRoom n text = n + 2
+columnRoom n plain = 21
+columnRoom n amount = 21
+columnRoom n percent = 41
+columnRoom n date = 20
 
 abbrev pub columnsRoom : ℕ → List Column → ℕ
 columnsRoom n [] = 0
 columnsRoom n (c ∷ cs) = columnRoom n c + columnsRoom n cs
 
-pub field-length : (x : List ℕ) (c : Column) (a b : ℤ) → mag a < 2 ^ 63 → mag b < 2 ^ 63 → length (field (shown x c a b)) < columnRoom (length x) c
-unfolding field shown
-field-length x Column.text a b f g = omega (arith, text-length x a b)
-field-length x Column.number a b f g = omega (arith, signed-length a f)
-field-length x Column.amount a b f g = omega (arith, amount-length a b g)
-field-length x Column.percent a b f g = omega (arith, percent-length a b f g)
-field-length x Column.date a b f g = omega (arith, date-length a f)
+module _ (x : List ℕ) where
+  pub field-length : (c : Column) (v : List ℤ) → ((i : ℕ) → mag (cell v i) < 2 ^ 63) → length (field (shown x c v)) < columnRoom (length x) c
+  unfolding field shown
+  field-length text v h = omega (arith, text-length x (cell v 0) (cell v 1))
+  field-length plain v h = omega (arith, signed-length (cell v 0) (h 0))
+  field-length amount v h = omega (arith, amount-length (cell v 0) (cell v 1) (h 1))
+  field-length percent v h = omega (arith, percent-length (cell v 0) (cell v 1) (h 0) (h 1))
+  field-length date v h = omega (arith, date-length (cell v 0) (h 0))
 
-pub fields-length : (x : List ℕ) (cs : List Column) (row : List ℤ) → ((i : ℕ) → mag (getD row i (pos 0)) < 2 ^ 63) → length (tabbed (fields x cs row)) ≤ columnsRoom (length x) cs
-unfolding tabbed fields
-fields-length x [] row h = omega arith
-fields-length x (c ∷ cs) row h =
-    let a = getD row 0 (pos 0) in
-    let b = getD row 1 (pos 0) in
-    let r = fields-length x cs (drop (width c) row) (λ i. rw (getD-drop (width c) row i (pos 0)) (h (width c + i))) in
-    rw (length-append (field (shown x c a b)) (tabbed (fields x cs (drop (width c) row)))) (omega (arith, r, field-length x c a b (h 0) (h 1)))
+  pub fields-length : (cs : List Column) (row : List ℤ) → ((i : ℕ) → mag (cell row i) < 2 ^ 63) → length (tabbed (fields x cs row)) ≤ columnsRoom (length x) cs
+  unfolding tabbed fields
+  fields-length [] row h = omega arith
+  fields-length (c ∷ cs) row h =
+      let r = fields-length cs (drop (width c) row) (λ i. rw (getD-drop (width c) row i (pos 0)) (h (width c + i))) in
+      rw (length-append (field (shown x c row)) (tabbed (fields x cs (drop (width c) row)))) (omega (arith, r, field-length c row h))

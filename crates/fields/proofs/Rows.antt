@@ -2,35 +2,32 @@
 use mathlib.Core.Path.{_≡_, refl, sym, ap, _∙_}
 use mathlib.Core.Bool.{Bool, true, false, cond}
 use mathlib.Core.Logic.{_⊎_, inl, inr, ⊎-elim}
-use mathlib.Core.List.{List, _∷_}
-use Prim.Native.Nat.{ℕ, _+_, _-_, _≤_, _<_, _^_}
+use mathlib.Core.List.{List, [], _∷_}
+use Prim.Native.Nat.{ℕ, _+_, _-_, _≤_, _<_}
 use native.Mathlib.Omega.{arith}
-use native.Mathlib.Nat.{add-zero}
 use native.Mathlib.Numerals.{add-one}
 use borrow.Author.Tests.{leb-true, leb-false, ne-eqb}
 use lib.Dec.{leb, eqb}
 use lib.IntN.{ℤ, pos}
-use lib.Signed.{mag}
-use lib.ListN.{length, getD, drop, drop-of-length-le, List·getD-eq-default}
-use lib.Seq.{drop-cons, drop-drop, drop-length, getD-drop}
-use mir.Facts.{toZ-ofZ}
+use lib.ListN.{length, getD, take, drop, length-drop, drop-of-length-le, List·getD-eq-default}
+use lib.Seq.{take-all, drop-cons, drop-drop, drop-length}
+use Rattle.report.specs.Columns.{plain, date, width}
 use Rattle.report.specs.Placed.{behind, Placed}
 use Rattle.report.proofs.Placing.{behind-full, behind-cut, behind-room}
-use Rattle.decimals.proofs.Signs.{held}
 use Rattle.fields.specs.Line.{field, tabbed}
-use Rattle.fields.specs.Columns.{Column, columnOf, columnsOf, width, shown, fields}
+use Rattle.fields.specs.Columns.{columnOf, columnsOf, cell, shown, fields}
 use Rattle.fields.proofs.Parts.{Partly, partly-then, partly-all}
 
--- a number past the end, and the number behind one
+-- a number past the end, and the numbers from a place on
 module _ (row : List ℤ) (i : ℕ) where
-  pub number-past : length row ≤ i → pos 0 ≡ getD row i (pos 0)
+  pub number-past : length row ≤ i → pos 0 ≡ cell row i
   number-past h = sym (List·getD-eq-default row (pos 0) h)
 
-  pub number-after : {z : ℤ} → mag z < 2 ^ 63 → z ≡ getD row (i + 1) (pos 0) → held z ≡ getD (drop i row) 1 (pos 0)
-  number-after f e = toZ-ofZ (record { sfits = f }) ∙ e ∙ sym (getD-drop i row 1 (pos 0))
+  pub from-past : length row ≤ i → [] ≡ drop i row
+  from-past h = sym (drop-of-length-le row h)
 
-  pub number-none : length row ≤ i → pos 0 ≡ getD (drop i row) 1 (pos 0)
-  number-none h = rw (drop-of-length-le row h)
+  pub from-in : take (length row - i) (drop i row) ≡ drop i row
+  from-in = take-all (length row - i) (drop i row) (omega (arith, length-drop i row))
 
   -- the numbers behind a column's
   drop-behind : (n : ℕ) → drop (behind (length row) i n) row ≡ drop n (drop i row)
@@ -58,22 +55,20 @@ module _ (c : ℕ) where
   unfolding columnOf
   width-one n = rw (ne-eqb c 0x74 (λ e. n (inr (inr e))), ne-eqb c 0x61 (λ e. n (inl e)), ne-eqb c 0x70 (λ e. n (inr (inl e)))) (go (eqb c 0x64))
     where
-      go : (b : Bool) → 1 ≡ width (cond b Column.date Column.number)
+      go : (b : Bool) → 1 ≡ width (cond b date plain)
       go true = refl
       go false = refl
 
 -- the loop that puts a row's fields, at its column i and number k
 module _ (x cs : List ℕ) (row : List ℤ) (i k : ℕ) where
   pub fields-turn :
-      {l all m n : List ℕ} {at a b w j : ℕ} {u v : ℤ} → i < length cs → Partly l at all m a (tabbed (fields x (columnsOf (drop i cs)) (drop k row))) → mag u < 2 ^ 63 → u ≡ getD row k (pos 0) →
-      mag v < 2 ^ 63 → v ≡ getD (drop k row) 1 (pos 0) → Placed m a (0x9 ∷ field (shown x (columnOf (getD cs i 0)) (held u) (held v))) n b → w ≡ width (columnOf (getD cs i 0)) →
-      j ≡ behind (length row) k w → Partly l at all n b (tabbed (fields x (columnsOf (drop (i + 1) cs)) (drop j row)))
+      {l all m n : List ℕ} {at a b w j : ℕ} → i < length cs → Partly l at all m a (tabbed (fields x (columnsOf (drop i cs)) (drop k row))) →
+      Placed m a (0x9 ∷ field (shown x (columnOf (getD cs i 0)) (drop k row))) n b → w ≡ width (columnOf (getD cs i 0)) → j ≡ behind (length row) k w →
+      Partly l at all n b (tabbed (fields x (columnsOf (drop (i + 1) cs)) (drop j row)))
   unfolding tabbed fields columnsOf
-  fields-turn {j = j} {u = u} {v = v} h p f d g e q s t =
-      let first : held u ≡ getD (drop k row) 0 (pos 0) = toZ-ofZ (record { sfits = f }) ∙ d ∙ sym (rw add-zero at (getD-drop k row 0 (pos 0))) in
-      let second : held v ≡ getD (drop k row) 1 (pos 0) = toZ-ofZ (record { sfits = g }) ∙ e in
+  fields-turn {j = j} h p q s t =
       let later : drop j row ≡ drop (width (columnOf (getD cs i 0))) (drop k row) = ap (λ (n : ℕ). drop n row) (t ∙ ap (behind (length row) k) s) ∙ drop-behind row k (width (columnOf (getD cs i 0))) in
-      rw (add-one, later) (partly-then (rw (drop-cons cs i 0) at p) (rw (first, second) at q))
+      rw (add-one, later) (partly-then (rw (drop-cons cs i 0) at p) q)
 
   pub fields-end : {l all m : List ℕ} {at a : ℕ} → length cs ≤ i → Partly l at all m a (tabbed (fields x (columnsOf (drop i cs)) (drop k row))) → Placed l at all m a
   unfolding tabbed fields columnsOf

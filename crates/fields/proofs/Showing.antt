@@ -1,13 +1,13 @@
 -- Laws of texts that are printed, and of what the numbers of a row show.
-use mathlib.Core.Path.{_≡_, refl, sym, ap, _∙_}
+use mathlib.Core.Path.{_≡_, sym, ap, _∙_}
 use mathlib.Core.Bool.{true, false}
 use mathlib.Core.List.{List, [], _∷_}
 use mathlib.Core.Option.{Option, none, some}
-use Prim.Native.Nat.{ℕ, _+_, _≤_, _<_}
+use Prim.Native.Nat.{ℕ, _+_, _≤_, _<_, _^_}
 use native.Mathlib.Numerals.{add-one}
 use borrow.Author.Tests.{ne-eqb}
 use lib.Dec.{eqb}
-use lib.Signed.{ltZ}
+use lib.Signed.{mag, ltZ}
 use lib.IntN.{ℤ, pos, natAbs}
 use lib.ListN.{length, getD, drop, drop-of-length-le}
 use lib.Seq.{drop-cons}
@@ -16,13 +16,15 @@ use mir.Val.{SFits}
 use mir.Facts.{toZ-ofZ}
 use Rattle.text.specs.Utf8.{bytes, encode}
 use Rattle.text.specs.Span.{clipped}
+use Rattle.report.specs.Columns.{Column, plain}
 use Rattle.report.specs.Placed.{Placed}
+use Rattle.report.proofs.Cells.{carried}
 use Rattle.report.proofs.Placing.{placed-then}
 use Rattle.decimals.specs.Decimal.{decimal, signed, natural}
 use Rattle.decimals.proofs.Putting.{placed-as}
 use Rattle.decimals.proofs.Signs.{held, below, above}
 use Rattle.fields.specs.Line.{printed, printable, field, percentage}
-use Rattle.fields.specs.Columns.{Column, columnOf, textShown, amountShown, percentShown, dateShown, shown}
+use Rattle.fields.specs.Columns.{columnOf, cell, textShown, amountShown, percentShown, dateShown, shown}
 use Rattle.fields.proofs.Parts.{Partly, partly-then, partly-all}
 
 -- the loop that prints a text, at i
@@ -103,15 +105,19 @@ module _ {a b : ℤ} (f : SFits w64 a) (g : SFits w64 b) where
         let d : n ≡ above g h .0 = v ∙ ap natural (toZ-ofZ g ∙ above g h .1) in
         there (at-start x ∙ ap (textShown x (pos (above f e .0))) (above g h .1) ∙ rw (w, c, d)) p
 
-  -- a column that is known by its letter
-  pub letter-shown : (x : List ℕ) {d k : Column} {l m : List ℕ} {at r : ℕ} → d ≡ k → Placed l at (field (shown x k (held a) (held b))) m r → Placed l at (field (shown x d a b)) m r
-  letter-shown x e p = rw e (rw (toZ-ofZ f, toZ-ofZ g) at p)
+-- a column that is known by its letter, and its first two numbers
+pub column-shown :
+    (x : List ℕ) (v : List ℤ) (s : ℤ → ℤ → Option (List ℕ)) {d k : Column} {a b : ℤ} {l m : List ℕ} {at r : ℕ} → d ≡ k → shown x k v ≡ s (cell v 0) (cell v 1) → mag a < 2 ^ 63 → a ≡ cell v 0 →
+    mag b < 2 ^ 63 → b ≡ cell v 1 → Placed l at (field (s (held a) (held b))) m r → Placed l at (field (shown x d v)) m r
+column-shown x v s q w f e g h p = rw (q, w, ← carried f e, ← carried g h) p
 
-  -- the same behind a tab
-  pub tab-shown : (x : List ℕ) (d : Column) {l m n : List ℕ} {at i r : ℕ} → Placed l at (0x9 ∷ []) m i → Placed m i (field (shown x d (held a) (held b))) n r → Placed l at (0x9 ∷ field (shown x d a b)) n r
-  tab-shown x d p q = placed-then p (letter-shown x refl q)
+-- the same behind a tab
+pub tab-shown :
+    (x : List ℕ) (d : Column) (row : List ℤ) (k : ℕ) {v : List ℤ} {l m n : List ℕ} {at i r : ℕ} → Placed l at (0x9 ∷ []) m i → v ≡ drop k row → Placed m i (field (shown x d v)) n r →
+    Placed l at (0x9 ∷ field (shown x d (drop k row))) n r
+tab-shown x d row k p e q = rw (← e) (placed-then p q)
 
 -- any other letter
-pub letter-other : (c : ℕ) → (c ≡ 0x74 → ⊥) → (c ≡ 0x61 → ⊥) → (c ≡ 0x70 → ⊥) → (c ≡ 0x64 → ⊥) → columnOf c ≡ Column.number
+pub letter-other : (c : ℕ) → (c ≡ 0x74 → ⊥) → (c ≡ 0x61 → ⊥) → (c ≡ 0x70 → ⊥) → (c ≡ 0x64 → ⊥) → columnOf c ≡ plain
 unfolding columnOf
 letter-other c t a p d = rw (ne-eqb c 0x74 t, ne-eqb c 0x61 a, ne-eqb c 0x70 p, ne-eqb c 0x64 d)

@@ -7,31 +7,20 @@ use lib.Dec.{eqb}
 use lib.IntN.{ℤ, pos, negsuc}
 use lib.ListN.{getD, drop}
 use Rattle.text.specs.Span.{clipped}
+use Rattle.report.specs.Columns.{Column, text, plain, amount, percent, date, width}
 use Rattle.decimals.specs.Decimal.{decimal, signed, natural}
 use Rattle.fields.specs.Line.{printable, field, percentage}
 
--- a text (start, length), a number, an amount that may be absent (1 or 0, amount), a percentage (unscaled number, scale), a date
-pub data Column : Type 0 where
-  text : Column
-  number : Column
-  amount : Column
-  percent : Column
-  date : Column
-
--- a column by its letter, as the code writes it: t text, a amount, p percentage, d date, any other a number
+-- a column by its letter, as the code writes it: t text, a amount, p percentage, d date, any other a plain number
 unfoldable pub columnOf : ℕ → Column
-columnOf c = cond (eqb c 0x74) text (cond (eqb c 0x61) amount (cond (eqb c 0x70) percent (cond (eqb c 0x64) date number)))
+columnOf c = cond (eqb c 0x74) text (cond (eqb c 0x61) amount (cond (eqb c 0x70) percent (cond (eqb c 0x64) date plain)))
 
 unfoldable pub columnsOf : List ℕ → List Column
 columnsOf cs = map columnOf cs
 
--- how many numbers a column has
-abbrev pub width : Column → ℕ
-width text = 2
-width number = 1
-width amount = 2
-width percent = 2
-width date = 1
+-- a number of a row, 0 past its end
+abbrev pub cell : List ℤ → ℕ → ℤ
+cell row i = getD row i (pos 0)
 
 -- "absent text is -1, 0": the bytes at a place, none where a number is below 0
 unfoldable pub textShown : List ℕ → ℤ → ℤ → Option (List ℕ)
@@ -53,15 +42,15 @@ unfoldable pub dateShown : ℤ → Option (List ℕ)
 dateShown (pos n) = some (decimal n)
 dateShown (negsuc n) = none
 
--- what the first numbers of a column show
-unfoldable pub shown : List ℕ → Column → ℤ → ℤ → Option (List ℕ)
-shown x text a b = textShown x a b
-shown x number a b = some (signed a)
-shown x amount a b = amountShown a b
-shown x percent a b = percentShown a b
-shown x date a b = dateShown a
+-- what a column shows, by a row's numbers from it on
+unfoldable pub shown : List ℕ → Column → List ℤ → Option (List ℕ)
+shown x text v = textShown x (cell v 0) (cell v 1)
+shown x plain v = some (signed (cell v 0))
+shown x amount v = amountShown (cell v 0) (cell v 1)
+shown x percent v = percentShown (cell v 0) (cell v 1)
+shown x date v = dateShown (cell v 0)
 
--- the fields of a row, one for each column; a number past its end is 0
+-- the fields of a row, one for each column
 unfoldable pub fields : List ℕ → List Column → List ℤ → List (List ℕ)
 fields x [] row = []
-fields x (c ∷ cs) row = field (shown x c (getD row 0 (pos 0)) (getD row 1 (pos 0))) ∷ fields x cs (drop (width c) row)
+fields x (c ∷ cs) row = field (shown x c row) ∷ fields x cs (drop (width c) row)

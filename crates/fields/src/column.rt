@@ -4,6 +4,7 @@ ghost use mathlib.Core.Path.{_≡_};
 ghost use Rattle.report.specs.Placed.{Placed};
 ghost use Rattle.fields.specs.Line.{printed, printable, field};
 ghost use Rattle.fields.specs.Columns.{textShown, amountShown, percentShown, dateShown, columnOf, shown};
+use crate::row::number_at;
 use decimals::natural;
 use decimals::put_byte;
 use decimals::put_decimal;
@@ -80,17 +81,13 @@ fn put_date_column(out: &mut [u8], at: usize, date: i64) -> usize
     put_decimal(out, at, size(date))
 }
 
-// Puts what the numbers a and b show in a column of this letter, and answers where the next bytes go.
-pub(crate) fn put_column(
-    out: &mut [u8],
-    at: usize,
-    text: &[u8],
-    column: u8,
-    a: i64,
-    b: i64,
-) -> usize
-    ensures { λ r. ⌜ Placed (now (out .entry)) at (field (shown (now (text .entry)) (columnOf column) a b)) (now (out .exit)) r ⌝ }
+// Puts what a column of this letter shows, by a row's numbers from it on, and answers where the next bytes
+// go.
+pub(crate) fn put_column(out: &mut [u8], at: usize, text: &[u8], column: u8, cells: &[i64]) -> usize
+    ensures { λ r. ⌜ Placed (now (out .entry)) at (field (shown (now (text .entry)) (columnOf column) (now (cells .entry)))) (now (out .exit)) r ⌝ }
 {
+    let a = number_at(cells, 0);
+    let b = number_at(cells, 1);
     match column {
         b't' => put_text_column(out, at, text, a, b),
         b'a' => put_amount_column(out, at, a, b),

@@ -6,8 +6,10 @@
 // assumes nothing of its own.
 mod column;
 mod field;
+mod row;
 
 pub use column::put_printable;
-pub use field::number_at;
 pub use field::put_field;
 pub use field::put_fields;
+pub use row::number_at;
+pub use row::numbers_from;

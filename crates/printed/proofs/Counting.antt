@@ -11,7 +11,8 @@ use Rattle.report.proofs.Cells.{carried}
 use Rattle.report.specs.Encoding.{heldWidth, entryWidth, unmappedWidth, cutRows}
 use Rattle.decimals.specs.Decimal.{natural}
 use Rattle.decimals.proofs.Signs.{held}
-use Rattle.printed.specs.Numbers.{cell, there, rowCount, refusedLine, laterLines, rowLines, acceptedLines, linesOf, lineCount}
+use Rattle.fields.specs.Columns.{cell}
+use Rattle.printed.specs.Numbers.{there, rowCount, refusedLine, laterLines, rowLines, acceptedLines, linesOf, lineCount}
 
 -- a number of the answer that was read
 pub counted : {z y : ℤ} {k : ℕ} → mag z < 2 ^ 63 → z ≡ y → k ≡ natural (held z) → k ≡ natural y

@@ -8,12 +8,13 @@ use native.Mathlib.Nat.{suc-mul}
 use lib.IntN.{ℤ}
 use lib.ListN.{length, getD, take, drop, List·getD-append, List·getD-eq-default}
 use lib.Seq.{getD-append-add, drop-drop}
+use Rattle.report.specs.Columns.{plain}
 use Rattle.report.specs.Encoding.{heldWidth, entryWidth, unmappedWidth, cutRows}
 use Rattle.report.specs.Placed.{Placed}
 use Rattle.report.proofs.Placing.{placed-none}
 use Rattle.decimals.proofs.Putting.{placed-as}
-use Rattle.fields.specs.Columns.{number}
-use Rattle.printed.specs.Numbers.{cell, there, group, groups, groupNumbers, term, terms, termNumbers, heldNumbers, entryNumbers, unmappedNumbers, rowCount, rowsIn, acceptedLine, refusedLine, laterLines, rowLines, acceptedLines, linesOf}
+use Rattle.fields.specs.Columns.{cell}
+use Rattle.printed.specs.Numbers.{there, group, groups, groupNumbers, term, terms, termNumbers, heldNumbers, entryNumbers, unmappedNumbers, rowCount, rowsIn, acceptedLine, refusedLine, laterLines, rowLines, acceptedLines, linesOf}
 use Rattle.printed.proofs.Counting.{cut-length, row-lines-length}
 
 -- an element behind the first list
@@ -120,8 +121,8 @@ module _ (x : List ℕ) (a h e u : List ℤ) (k : ℕ) where
       mapped (groupNumbers a) groups (k - 1) (group 0 0) [] (omega arith)))
       p
 
-  pub accepted-term : {m o : List ℕ} {r : ℕ} → 6 ≤ k → k < 36 → Placed m 0 (termNumbers x a (getD terms (k - 6) (term 0 number 0))) o r → Placed m 0 (getD (acceptedLines x a h e u) k []) o r
-  accepted-term i j p = placed-as (sym (front j ∙ past (G x a) (T x a) [] k i ∙ mapped (termNumbers x a) terms (k - 6) (term 0 number 0) [] (omega arith))) p
+  pub accepted-term : {m o : List ℕ} {r : ℕ} → 6 ≤ k → k < 36 → Placed m 0 (termNumbers x a (getD terms (k - 6) (term 0 plain 0))) o r → Placed m 0 (getD (acceptedLines x a h e u) k []) o r
+  accepted-term i j p = placed-as (sym (front j ∙ past (G x a) (T x a) [] k i ∙ mapped (termNumbers x a) terms (k - 6) (term 0 plain 0) [] (omega arith))) p
 
   pub accepted-row : {m o : List ℕ} {r : ℕ} → 36 ≤ k → Placed m 0 (getD (rowLines x a h e u) (k - 36) []) o r → Placed m 0 (getD (acceptedLines x a h e u) k []) o r
   unfolding acceptedLines

@@ -1,13 +1,13 @@
--- Every line has room: of numbers of 64 bits and a text of n bytes, it has at most 3 n + 160 bytes.
+-- Every line has room: of numbers of 64 bits and a text of n bytes, it has at most 3 n + 256 bytes.
 use mathlib.Core.Path.{_≡_, refl, ap, _∙_}
-use mathlib.Core.Bool.{Bool, true, false, cond, _&&_, _||_}
+use mathlib.Core.Bool.{Bool, true, false, cond, _&&_}
 use mathlib.Core.List.{List, [], _∷_, _++_, map}
 use mathlib.Core.Option.{Option, none, some}
 use Prim.Native.Nat.{ℕ, zero, suc, _+_, _*_, _≤_, _<_, _^_}
 use Prim.Native.String.{String}
 use native.Mathlib.Omega.{arith}
 use borrow.Author.Tests.{ltb-true, ltb-false}
-use lib.Dec.{eqb, ltb}
+use lib.Dec.{ltb}
 use lib.IntN.{ℤ, pos}
 use lib.Signed.{mag}
 use lib.ListN.{length, getD, take, drop, length-append, length-take, List·getD-eq-default}
@@ -15,17 +15,18 @@ use lib.Seq.{getD-take, getD-drop, take-at}
 use Rattle.text.specs.Utf8.{bytes, encode}
 use Rattle.text.proofs.Bools.{both}
 use Rattle.names.proofs.Puts.{put-eq}
+use Rattle.report.specs.Columns.{Column, text, plain, amount, percent, date, heldColumns}
 use Rattle.report.specs.Encoding.{heldWidth, entryWidth, unmappedWidth, cutRows}
 use Rattle.report.specs.Placed.{Placed}
 use Rattle.report.proofs.Placing.{placed-room}
 use Rattle.decimals.specs.Decimal.{natural}
 use Rattle.decimals.proofs.Room.{decimal-length, signed-length}
 use Rattle.fields.specs.Line.{field, tabbed, line}
-use Rattle.fields.specs.Columns.{Column, text, number, amount, percent, date, textShown, shown, fields}
+use Rattle.fields.specs.Columns.{cell, shown, fields}
 use Rattle.fields.proofs.Room.{columnRoom, columnsRoom, field-length, fields-length}
 use Rattle.lines.proofs.Room.{path-length, term-length, unmapped-length}
 use Rattle.printed.specs.Printed.{groupLine}
-use Rattle.printed.specs.Numbers.{cell, there, GroupAt, TermAt, groups, terms, hasScheme, groupNumbers, termWith, schemeShown, termNumbers, heldColumns, heldNumbers, entryNumbers, unmappedNumbers, rowCount, rowsIn, acceptedLine, refusedLine, laterLines, rowLines, acceptedLines, linesOf, Wide, lineRoom}
+use Rattle.printed.specs.Numbers.{there, GroupAt, TermAt, groups, terms, hasScheme, groupNumbers, termWith, schemeShown, termNumbers, heldNumbers, entryNumbers, unmappedNumbers, rowCount, rowsIn, acceptedLine, refusedLine, laterLines, rowLines, acceptedLines, linesOf, Wide, lineRoom}
 
 -- lists of lines that have at most n bytes each
 abbrev Short : ℕ → List (List ℕ) → Type 0
@@ -77,30 +78,22 @@ line-length w fs = length-append (bytes w ++ tabbed fs) (0xA ∷ []) ∙ ap (λ 
 module _ (x : List ℕ) where
   accepted-short : (a : List ℤ) → Wide a → length (acceptedLine x a) ≤ lineRoom (length x)
   unfolding acceptedLine bytes encode
-  accepted-short a q = rw (line-length "accepted" (fields x (number ∷ number ∷ number ∷ []) (drop 2 a))) (omega (arith, fields-length x (number ∷ number ∷ number ∷ []) (drop 2 a) (drop-wide 2 a q)))
+  accepted-short a q = rw (line-length "accepted" (fields x (plain ∷ plain ∷ plain ∷ []) (drop 2 a))) (omega (arith, fields-length x (plain ∷ plain ∷ plain ∷ []) (drop 2 a) (drop-wide 2 a q)))
 
   refused-short : (a : List ℤ) → Wide a → length (refusedLine x a) ≤ lineRoom (length x)
   unfolding refusedLine bytes encode
-  refused-short a q = rw (line-length "refused" (fields x (number ∷ number ∷ []) a)) (omega (arith, fields-length x (number ∷ number ∷ []) a q))
+  refused-short a q = rw (line-length "refused" (fields x (plain ∷ plain ∷ []) a)) (omega (arith, fields-length x (plain ∷ plain ∷ []) a q))
 
   -- what is held
   columns-room : (n k : ℕ) → columnsRoom n (heldColumns k) ≤ 3 * n + 153
   unfolding heldColumns
-  columns-room n k = go (eqb k 1) (eqb k 2) (eqb k 3 || eqb k 4) (eqb k 5)
-    where
-      go :
-          (a b c d : Bool) →
-          columnsRoom n
-          (cond a (number ∷ text ∷ text ∷ text ∷ [])
-          (cond b (number ∷ number ∷ number ∷ text ∷ percent ∷ text ∷ text ∷ [])
-          (cond c (number ∷ number ∷ amount ∷ percent ∷ text ∷ percent ∷ text ∷ text ∷ [])
-          (cond d (number ∷ text ∷ date ∷ []) (number ∷ []))))) ≤
-          3 * n + 153
-      go true b c d = omega arith
-      go false true c d = omega arith
-      go false false true d = omega arith
-      go false false false true = omega arith
-      go false false false false = omega arith
+  columns-room n zero = omega arith
+  columns-room n (suc zero) = omega arith
+  columns-room n (suc (suc zero)) = omega arith
+  columns-room n (suc (suc (suc zero))) = omega arith
+  columns-room n (suc (suc (suc (suc zero)))) = omega arith
+  columns-room n (suc (suc (suc (suc (suc zero))))) = omega arith
+  columns-room n (suc (suc (suc (suc (suc (suc k)))))) = omega arith
 
   held-short : (row : List ℤ) → Wide row → length (heldNumbers x row) ≤ lineRoom (length x)
   unfolding heldNumbers bytes encode
@@ -110,10 +103,10 @@ module _ (x : List ℕ) where
 
   -- entries and unmapped elements
   entry-short : (row : List ℤ) → Wide row → length (entryNumbers x row) ≤ lineRoom (length x)
-  unfolding entryNumbers line tabbed shown bytes encode
+  unfolding entryNumbers line tabbed bytes encode
   entry-short row q =
       simp length-append
-      (omega (arith, signed-length (cell row 0) (q 0), path-length (natural (cell row 1)), term-length (natural (cell row 2)) (cell row 3) (q 3), field-length x text (cell row 4) (cell row 5) (q 4) (q 5)))
+      (omega (arith, signed-length (cell row 0) (q 0), path-length (natural (cell row 1)), term-length (natural (cell row 2)) (cell row 3) (q 3), field-length x text (drop 4 row) (drop-wide 4 row q)))
 
   unmapped-short : (row : List ℤ) → Wide row → length (unmappedNumbers x row) ≤ lineRoom (length x)
   unfolding unmappedNumbers line tabbed bytes encode
@@ -129,16 +122,16 @@ module _ (x : List ℕ) where
       go false = omega arith
 
   scheme-short : (a : List ℤ) → Wide a → (n p : ℕ) → length (field (schemeShown x a n p)) ≤ length x + 1
-  unfolding schemeShown field shown bytes encode
+  unfolding schemeShown field bytes encode
   scheme-short a q n p = go (hasScheme n)
     where
-      go : (b : Bool) → length (field (cond b (textShown x (cell a (p + 2)) (cell a (p + 3))) none)) ≤ length x + 1
-      go true = omega (arith, field-length x text (cell a (p + 2)) (cell a (p + 3)) (q (p + 2)) (q (p + 3)))
+      go : (b : Bool) → length (field (cond b (shown x text (drop (p + 2) a)) none)) ≤ length x + 1
+      go true = omega (arith, field-length x text (drop (p + 2) a) (drop-wide (p + 2) a q))
       go false = omega arith
 
   column-room : (n : ℕ) (c : Column) → columnRoom n c ≤ n + 41
   column-room n text = omega arith
-  column-room n number = omega arith
+  column-room n plain = omega arith
   column-room n amount = omega arith
   column-room n percent = omega arith
   column-room n date = omega arith
@@ -153,8 +146,8 @@ module _ (x : List ℕ) where
   unfolding termNumbers
   term-short a q t e =
       let p = t .place in
-      let o = shown x (t .column) (cell a p) (cell a (p + 1)) in
-      omega (arith, with-short (t .number) o (schemeShown x a (t .number) p) (ltb-true (t .number) 1000 e), scheme-short a q (t .number) p, field-length x (t .column) (cell a p) (cell a (p + 1)) (q p) (q (p + 1)), column-room (length x) (t .column))
+      let o = shown x (t .column) (drop p a) in
+      omega (arith, with-short (t .number) o (schemeShown x a (t .number) p) (ltb-true (t .number) 1000 e), scheme-short a q (t .number) p, field-length x (t .column) (drop p a) (drop-wide p a q), column-room (length x) (t .column))
 
 -- where there is room, what was put at the front is there whole
 whole : {l v m : List ℕ} {r : ℕ} → Placed l 0 v m r → length v ≤ length l → take r m ≡ v

@@ -7,6 +7,7 @@ use Rattle.names.specs.declared.term.Term.{Term}
 use Rattle.names.specs.Term.{termNumber}
 use Rattle.labels.proofs.OwnTexts.{path-text, term-group, term-name, parent-name}
 use Rattle.report.specs.Rows.{Place, Entry, Held, transfer, vat, allowance, charge, preceding, Unmapped, mapEntry, mapTransfer, mapVat, mapAllowanceCharge, mapPreceding, mapHeld, mapUnmapped}
+use Rattle.report.specs.Columns.{heldColumns}
 use Rattle.report.specs.Encoding.{orAbsent, heldRow, entryRow, unmappedRow}
 use Rattle.settlement.specs.TableDoc.{shows}
 use Rattle.settlement.proofs.Results.{tidy-shows}
@@ -15,7 +16,7 @@ use Rattle.fields.specs.Line.{field}
 use Rattle.fields.specs.Columns.{shown, fields}
 use Rattle.lines.specs.Labels.{termShown, unmappedPath, nameShown}
 use Rattle.printed.specs.Printed.{heldLine, termField, entryLine, unmappedLine}
-use Rattle.printed.specs.Numbers.{heldColumns, heldNumbers, entryNumbers, unmappedNumbers}
+use Rattle.printed.specs.Numbers.{heldNumbers, entryNumbers, unmappedNumbers}
 use Rattle.printed.proofs.Values.{place-shown, text-shown, amount-shown, percent-shown, date-shown}
 
 -- a term by its number is the term
@@ -35,7 +36,7 @@ module _ (x : List ℕ) where
   held-line (preceding p) = rw (place-shown x (p .reference), date-shown (p .date))
 
   pub entry-line : (e : Entry Place) → entryNumbers x (entryRow e) ≡ entryLine (mapEntry (shows x) e)
-  unfolding entryNumbers entryRow entryLine natural signed mapEntry
+  unfolding entryNumbers entryRow entryLine shown natural signed mapEntry
   entry-line e = rw (path-text (e .path), term-shown (e .term) (e .index), text-shown x (e .value))
 
   pub unmapped-line : (u : Unmapped Place) → unmappedNumbers x (unmappedRow u) ≡ unmappedLine (mapUnmapped (shows x) u)

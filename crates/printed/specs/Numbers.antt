@@ -6,22 +6,19 @@ use Prim.Native.Nat.{ℕ, _+_, _*_, _/_, _^_, _<_, min}
 use lib.Dec.{eqb}
 use lib.IntN.{ℤ, pos, negsuc}
 use lib.Signed.{mag}
-use lib.ListN.{length, getD, drop}
+use lib.ListN.{length, drop}
 use Rattle.text.specs.Utf8.{bytes}
 use Rattle.labels.specs.PathText.{pathTextAt}
+use Rattle.report.specs.Columns.{Column, text, plain, amount, percent, date, heldColumns}
 use Rattle.report.specs.Encoding.{heldWidth, entryWidth, unmappedWidth, rowsThen, cutRows}
 use Rattle.settlement.specs.Document.{maybe}
 use Rattle.settlement.specs.Outcome.{Outcome}
 use Rattle.settlement.specs.Result.{resultOf, answerRow}
 use Rattle.decimals.specs.Decimal.{decimal, signed, natural}
 use Rattle.fields.specs.Line.{field, line}
-use Rattle.fields.specs.Columns.{Column, text, number, amount, percent, date, textShown, shown, fields}
+use Rattle.fields.specs.Columns.{cell, shown, fields}
 use Rattle.lines.specs.Labels.{termShown, unmappedPath, nameShown}
 use Rattle.printed.specs.Printed.{groupLine}
-
--- a number of a row
-abbrev pub cell : List ℤ → ℕ → ℤ
-cell row i = getD row i (pos 0)
 
 -- whether a number says that something is there, 1 or 0
 abbrev pub there : ℤ → Bool
@@ -76,28 +73,28 @@ terms =
     term 89 text 45 ∷
     term 90 text 47 ∷
     term 91 text 43 ∷
-    term 106 number 49 ∷
+    term 106 plain 49 ∷
     term 107 amount 50 ∷
     term 108 amount 52 ∷
-    term 109 number 54 ∷
+    term 109 plain 54 ∷
     term 110 amount 55 ∷
     term 111 amount 57 ∷
-    term 112 number 59 ∷
+    term 112 plain 59 ∷
     term 113 amount 60 ∷
     term 114 amount 62 ∷
-    term 115 number 64 ∷ []
+    term 115 plain 64 ∷ []
 
 -- "60 and 61 with scheme", two numbers behind those of the content
 unfoldable pub hasScheme : ℕ → Bool
 hasScheme n = eqb n 60 || eqb n 61
 
--- whether the numbers of a column show something
-unfoldable pub isShown : Column → ℤ → ℤ → Bool
-isShown text a b = isNatural a && isNatural b
-isShown number a b = true
-isShown amount a b = there a
-isShown percent a b = isNatural b
-isShown date a b = isNatural a
+-- whether a column shows something, by a row's numbers from it on
+unfoldable pub isShown : Column → List ℤ → Bool
+isShown text v = isNatural (cell v 0) && isNatural (cell v 1)
+isShown plain v = true
+isShown amount v = there (cell v 0)
+isShown percent v = isNatural (cell v 1)
+isShown date v = isNatural (cell v 0)
 
 -- "`group` for present BG-10, .."
 unfoldable pub groupNumbers : List ℤ → GroupAt → List ℕ
@@ -110,19 +107,11 @@ termWith n (some s) scheme = line "term" ((bytes "BT-" ++ decimal n) ∷ s ∷ m
 
 -- its scheme, "if any"
 unfoldable pub schemeShown : List ℕ → List ℤ → (number place : ℕ) → Option (List ℕ)
-schemeShown x a n p = cond (hasScheme n) (textShown x (cell a (p + 2)) (cell a (p + 3))) none
+schemeShown x a n p = cond (hasScheme n) (shown x text (drop (p + 2) a)) none
 
 -- "`term` with number and content (then scheme, if any)"
 unfoldable pub termNumbers : List ℕ → List ℤ → TermAt → List ℕ
-termNumbers x a t = termWith (t .number) (shown x (t .column) (cell a (t .place)) (cell a (t .place + 1))) (schemeShown x a (t .number) (t .place))
-
--- the columns of a held row by its kind: 1 transfer, 2 VAT, 3 allowance, 4 charge, 5 preceding invoice
-unfoldable pub heldColumns : ℕ → List Column
-heldColumns k =
-    cond (eqb k 1) (number ∷ text ∷ text ∷ text ∷ [])
-    (cond (eqb k 2) (number ∷ number ∷ number ∷ text ∷ percent ∷ text ∷ text ∷ [])
-    (cond (eqb k 3 || eqb k 4) (number ∷ number ∷ amount ∷ percent ∷ text ∷ percent ∷ text ∷ text ∷ [])
-    (cond (eqb k 5) (number ∷ text ∷ date ∷ []) (number ∷ []))))
+termNumbers x a t = termWith (t .number) (shown x (t .column) (drop (t .place) a)) (schemeShown x a (t .number) (t .place))
 
 -- "`held` with kind and fields"
 unfoldable pub heldNumbers : List ℕ → List ℤ → List ℕ
@@ -135,7 +124,7 @@ entryNumbers x row =
     (signed (cell row 0) ∷
     pathTextAt (natural (cell row 1)) ∷
     field (termShown (natural (cell row 2)) (cell row 3)) ∷
-    field (textShown x (cell row 4) (cell row 5)) ∷ [])
+    field (shown x text (drop 4 row)) ∷ [])
 
 -- "`unmapped` with path"
 unfoldable pub unmappedNumbers : List ℕ → List ℤ → List ℕ
@@ -151,11 +140,11 @@ rowsIn w answered l = cutRows w (rowCount w answered l) l
 
 -- "`accepted` with the three counts"
 unfoldable pub acceptedLine : List ℕ → List ℤ → List ℕ
-acceptedLine x a = line "accepted" (fields x (number ∷ number ∷ number ∷ []) (drop 2 a))
+acceptedLine x a = line "accepted" (fields x (plain ∷ plain ∷ plain ∷ []) (drop 2 a))
 
 -- "`refused` with number and record"
 unfoldable pub refusedLine : List ℕ → List ℤ → List ℕ
-refusedLine x a = line "refused" (fields x (number ∷ number ∷ []) a)
+refusedLine x a = line "refused" (fields x (plain ∷ plain ∷ []) a)
 
 -- the lines of entries and unmapped elements
 unfoldable pub laterLines : List ℕ → (answer entries unmapped : List ℤ) → List (List ℕ)
@@ -183,7 +172,7 @@ Wide l = (i : ℕ) → mag (cell l i) < 2 ^ 63
 
 -- room for a line about a text of n bytes
 abbrev pub lineRoom : ℕ → ℕ
-lineRoom n = 3 * n + 160
+lineRoom n = 3 * n + 256
 
 -- those of what a call with this outcome leaves, lent lists h, e and u
 abbrev pub exitLines : List ℕ → (h e u : List ℤ) → Outcome → List (List ℕ)

@@ -3,7 +3,8 @@ ghost use mathlib.Core.Path.{_≡_};
 ghost use Prim.Native.Nat.{min};
 ghost use Rattle.report.specs.Encoding.{heldWidth, entryWidth, unmappedWidth};
 ghost use Rattle.decimals.specs.Decimal.{natural};
-ghost use Rattle.printed.specs.Numbers.{cell, there, rowCount, lineCount};
+ghost use Rattle.fields.specs.Columns.{cell};
+ghost use Rattle.printed.specs.Numbers.{there, rowCount, lineCount};
 
 // The lesser of two counts.
 fn fewer(a: usize, b: usize) -> usize

@@ -2,9 +2,9 @@
 ghost use lib.ListN.{getD};
 ghost use Rattle.report.specs.Placed.{Placed};
 ghost use Rattle.printed.specs.Numbers.{group, groups, groupNumbers};
+use crate::byte_table::byte_at;
+use crate::byte_table::wide;
 use crate::count::count_at;
-use crate::table::byte_at;
-use crate::table::wide;
 use decimals::put_bytes;
 
 // BG-10, BG-14, BG-16, BG-18 (card), BG-19 (direct debit), and where the answer says whether they are

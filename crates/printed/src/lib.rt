@@ -4,11 +4,11 @@
 // Every function takes all numbers and lists of any length, so no public function has a `requires`: a
 // number past the end of a row is 0, an answered row that its list does not have is not printed, and
 // what has no room is left out. The crate assumes nothing of its own.
+mod byte_table;
 mod count;
 mod group;
 mod line;
 mod row;
-mod table;
 mod term;
 
 pub use count::line_count;

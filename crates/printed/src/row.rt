@@ -7,12 +7,13 @@ ghost use Rattle.labels.specs.PathText.{pathTextAt};
 ghost use Rattle.report.specs.Placed.{Placed};
 ghost use Rattle.decimals.specs.Decimal.{signed, natural};
 ghost use Rattle.fields.specs.Line.{field, tabbed};
-ghost use Rattle.fields.specs.Columns.{columnsOf, fields};
+ghost use Rattle.fields.specs.Columns.{columnsOf, cell, fields};
 ghost use Rattle.lines.specs.Labels.{termShown, unmappedPath, nameShown};
-ghost use Rattle.printed.specs.Numbers.{cell, acceptedLine, refusedLine, heldNumbers, entryNumbers, unmappedNumbers};
+ghost use Rattle.printed.specs.Numbers.{acceptedLine, refusedLine, heldNumbers, entryNumbers, unmappedNumbers};
 use crate::count::count_at;
 use decimals::put_bytes;
 use fields::number_at;
+use fields::put_field;
 use fields::put_fields;
 
 // Puts a word, the fields of a row's numbers from a place on, a column's letter for each, and a line
@@ -80,7 +81,7 @@ fn put_entry_start(out: &mut [u8], text: &[u8], row: &[i64]) -> usize
     ensures { λ r. ⌜ Placed (now (out .entry)) 0 (bytes "entry" ++ 0x9 ∷ signed (cell (now (row .entry)) 0) ++ 0x9 ∷ pathTextAt (natural (cell (now (row .entry)) 1))) (now (out .exit)) r ⌝ }
 {
     let message = put_bytes(out, 0, b"entry");
-    let path = put_fields(out, message, text, b"n", row, 0);
+    let path = put_field(out, message, text, b'n', row, 0);
     put_path(out, path, row)
 }
 
@@ -90,7 +91,7 @@ pub(crate) fn put_entry(out: &mut [u8], text: &[u8], row: &[i64]) -> usize
 {
     let term = put_entry_start(out, text, row);
     let value = put_term(out, term, row);
-    let end = put_fields(out, value, text, b"t", row, 4);
+    let end = put_field(out, value, text, b't', row, 4);
     put_bytes(out, end, b"\n")
 }
 

@@ -1,21 +1,23 @@
 // The lines of terms.
 ghost use mathlib.Core.Path.{_≡_};
+ghost use mathlib.Core.Bool.{_&&_};
 ghost use mathlib.Core.List.{[], _∷_, _++_};
-ghost use Prim.Native.Nat.{_+_, _<_};
+ghost use Prim.Native.Nat.{_<_};
 ghost use lib.ListN.{getD};
 ghost use Rattle.settlement.specs.Document.{maybe};
+ghost use Rattle.report.specs.Columns.{plain};
 ghost use Rattle.report.specs.Placed.{Placed};
 ghost use Rattle.text.specs.Utf8.{bytes};
 ghost use Rattle.decimals.specs.Decimal.{decimal};
 ghost use Rattle.fields.specs.Line.{tabbed};
-ghost use Rattle.fields.specs.Columns as column;
-ghost use Rattle.fields.specs.Columns.{number, columnOf};
-ghost use Rattle.printed.specs.Numbers.{cell, there, term, terms, isNatural, isShown, hasScheme, schemeShown, termNumbers};
-use crate::table::byte_at;
-use crate::table::wide;
+ghost use Rattle.fields.specs.Columns.{columnOf};
+ghost use Rattle.printed.specs.Numbers.{there, term, terms, isNatural, isShown, hasScheme, schemeShown, termNumbers};
+use crate::byte_table::byte_at;
+use crate::byte_table::wide;
 use decimals::put_bytes;
 use fields::number_at;
-use fields::put_fields;
+use fields::numbers_from;
+use fields::put_field;
 
 // The terms' numbers, the letters of their columns, and their places in the answer.
 const NUMBERS: [u8; 30] = [
@@ -96,7 +98,7 @@ fn is_natural(z: i64) -> bool
 
 // Whether a text is there.
 fn is_text(start: i64, length: i64) -> bool
-    ensures { λ r. ⌜ r ≡ isShown column.text start length ⌝ }
+    ensures { λ r. ⌜ r ≡ (isNatural start && isNatural length) ⌝ }
 {
     let started = is_natural(start);
     if started {
@@ -113,10 +115,12 @@ fn is_amount(present: i64) -> bool
     !absent
 }
 
-// Whether the numbers a and b show something in a column of this letter.
-fn is_shown(column: u8, a: i64, b: i64) -> bool
-    ensures { λ r. ⌜ r ≡ isShown (columnOf column) a b ⌝ }
+// Whether a column of this letter shows something, by a row's numbers from it on.
+fn is_shown(column: u8, cells: &[i64]) -> bool
+    ensures { λ r. ⌜ r ≡ isShown (columnOf column) (now (cells .entry)) ⌝ }
 {
+    let a = number_at(cells, 0);
+    let b = number_at(cells, 1);
     match column {
         b't' => is_text(a, b),
         b'a' => is_amount(a),
@@ -124,18 +128,6 @@ fn is_shown(column: u8, a: i64, b: i64) -> bool
         b'd' => is_natural(a),
         _ => true,
     }
-}
-
-// Whether a term is there.
-fn is_present(answer: &[i64], column: u8, place: usize) -> bool
-    requires { ⌜ place < 512 ⌝ }
-    ensures { λ r. ⌜ r ≡ isShown (columnOf column) (cell (now (answer .entry)) place) (cell (now (answer .entry)) (place + 1)) ⌝ }
-{
-    is_shown(
-        column,
-        number_at(answer, place),
-        number_at(answer, place + 1),
-    )
 }
 
 // Whether a term has a scheme.
@@ -162,11 +154,11 @@ fn put_scheme(
     if !identifier {
         return at;
     }
-    let there = is_present(answer, b't', place + 2);
+    let there = is_shown(b't', numbers_from(answer, place + 2));
     if !there {
         return at;
     }
-    put_fields(out, at, text, b"t", answer, place + 2)
+    put_field(out, at, text, b't', answer, place + 2)
 }
 
 // Puts the number of a term, behind the line's word.
@@ -189,20 +181,19 @@ fn put_term_at(
     requires { ⌜ place < 256 ⌝ }
     ensures { λ r. ⌜ Placed (now (out .entry)) 0 (termNumbers (now (text .entry)) (now (answer .entry)) (term number (columnOf column) place)) (now (out .exit)) r ⌝ }
 {
-    let there = is_present(answer, column, place);
+    let there = is_shown(column, numbers_from(answer, place));
     if !there {
         return 0;
     }
     let content = put_term_number(out, number);
-    let columns = [column];
-    let scheme = put_fields(out, content, text, &columns, answer, place);
+    let scheme = put_field(out, content, text, column, answer, place);
     let end = put_scheme(out, scheme, text, answer, number, place);
     put_bytes(out, end, b"\n")
 }
 
 // That of term k.
 pub(crate) fn put_term(out: &mut [u8], text: &[u8], answer: &[i64], k: usize) -> usize
-    ensures { λ r. ⌜ Placed (now (out .entry)) 0 (termNumbers (now (text .entry)) (now (answer .entry)) (getD terms k (term 0 number 0))) (now (out .exit)) r ⌝ }
+    ensures { λ r. ⌜ Placed (now (out .entry)) 0 (termNumbers (now (text .entry)) (now (answer .entry)) (getD terms k (term 0 plain 0))) (now (out .exit)) r ⌝ }
 {
     let n = byte_at(&NUMBERS, k);
     let column = byte_at(&COLUMNS, k);

@@ -3,9 +3,19 @@
 //
 // The lines are made by crate `printed`, which is proved; here they are only written, until a write fails:
 // what arrives is a beginning of the reading. The crate trusts the C library's `write`, through `io`.
+use report::ENTRY_ROOM;
+use report::HELD_ROOM;
+use report::UNMAPPED_ROOM;
 use rulzhamm::rulzhamm_read;
 
 const STDOUT: i32 = 1;
+
+// The room of the three lists, for 256 records.
+const HELD: usize = 256 * HELD_ROOM;
+
+const ENTRIES: usize = 256 * ENTRY_ROOM;
+
+const UNMAPPED: usize = 256 * UNMAPPED_ROOM;
 
 // Writes the lines of what a call left, up to the first write that fails. A line of a text of at most
 // 65,536 bytes has room in `out`.
@@ -13,9 +23,9 @@ fn print_lines(
     out: &mut [u8; 524288],
     text: &[u8],
     answer: &[i64; 65],
-    held: &[i64; 3584],
-    entries: &[i64; 6144],
-    unmapped: &[i64; 768],
+    held: &[i64; HELD],
+    entries: &[i64; ENTRIES],
+    unmapped: &[i64; UNMAPPED],
 ) {
     let lines = printed::line_count(answer, held, entries, unmapped);
     let mut k = 0;
@@ -37,9 +47,9 @@ pub fn print_reading(
     rules: u32,
     mode: u32,
 ) {
-    let mut held = [0i64; 3584];
-    let mut entries = [0i64; 6144];
-    let mut unmapped = [0i64; 768];
+    let mut held = [0i64; HELD];
+    let mut entries = [0i64; ENTRIES];
+    let mut unmapped = [0i64; UNMAPPED];
     let mut answer = [0i64; 65];
     rulzhamm_read(
         table,

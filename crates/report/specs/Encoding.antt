@@ -2,7 +2,7 @@
 use mathlib.Core.Bool.{cond}
 use mathlib.Core.List.{List, [], _∷_, _++_}
 use mathlib.Core.Option.{Option, none, some}
-use Prim.Native.Nat.{ℕ, zero, suc, _-_}
+use Prim.Native.Nat.{ℕ, zero, suc, _*_, _-_}
 use lib.Dec.{eqb}
 use lib.IntN.{ℤ, pos, negsuc}
 use lib.ListN.{length, replicate, take, drop}
@@ -23,6 +23,20 @@ heldWidth = 14
 -- of an unmapped element: "Unmapped, 3"
 abbrev pub unmappedWidth : ℕ
 unmappedWidth = 3
+
+-- the entries that there must be room for, for each record of a table; of held rows and unmapped rows one each (document 01, refusal 10)
+abbrev pub recordEntries : ℕ
+recordEntries = 4
+
+-- the room for them, in numbers
+abbrev pub heldRoom : ℕ
+heldRoom = heldWidth
+
+abbrev pub entryRoom : ℕ
+entryRoom = recordEntries * entryWidth
+
+abbrev pub unmappedRoom : ℕ
+unmappedRoom = unmappedWidth
 
 -- -1, for what is absent
 abbrev pub absent : ℤ

@@ -1,4 +1,5 @@
 pub mod Placed
 pub mod Rows
 pub mod Encoding
+pub mod Columns
 pub mod Values

@@ -18,7 +18,7 @@ use Rattle.report.specs.declared.held.Transfer as CodeTransfer
 use Rattle.report.specs.declared.held.Vat as CodeVat
 use Rattle.report.specs.declared.held.AllowanceCharge as CodeAllowanceCharge
 use Rattle.report.specs.declared.held.Preceding as CodePreceding
-use Rattle.report.specs.declared.unmapped.Unmapped as CodeUnmapped
+use Rattle.report.specs.declared.unmapped_row.Unmapped as CodeUnmapped
 use Rattle.report.specs.Rows.{Place, Entry, Transfer, Vat, AllowanceCharge, Preceding, Unmapped}
 
 -- a text's place, behind what was trimmed off

@@ -3,12 +3,14 @@
 //
 // Every function takes all numbers and lists of any length: what has no room is left out. No public
 // function has a `requires`, and the crate assumes nothing of its own.
+mod cursor;
 mod entry;
 mod held;
 mod list;
-mod unmapped;
+mod unmapped_row;
 mod value;
 
+pub use cursor::Cursor;
 pub use entry::Entry;
 pub use entry::put_entry;
 pub use held::AllowanceCharge;
@@ -20,13 +22,16 @@ pub use held::put_charge;
 pub use held::put_preceding;
 pub use held::put_transfer;
 pub use held::put_vat;
+pub use list::ENTRY_ROOM;
 pub use list::ENTRY_WIDTH;
+pub use list::HELD_ROOM;
 pub use list::HELD_WIDTH;
+pub use list::UNMAPPED_ROOM;
 pub use list::UNMAPPED_WIDTH;
 pub use list::behind;
 pub use list::put_row;
-pub use unmapped::Unmapped;
-pub use unmapped::put_unmapped;
+pub use unmapped_row::Unmapped;
+pub use unmapped_row::put_unmapped;
 pub use value::Amount;
 pub use value::Day;
 pub use value::Index;

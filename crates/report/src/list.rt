@@ -14,6 +14,13 @@ pub const HELD_WIDTH: usize = 14;
 
 pub const UNMAPPED_WIDTH: usize = 3;
 
+// The room for what a record of a table may make: a held row, four entries and an unmapped row.
+pub const HELD_ROOM: usize = HELD_WIDTH;
+
+pub const ENTRY_ROOM: usize = 4 * ENTRY_WIDTH;
+
+pub const UNMAPPED_ROOM: usize = UNMAPPED_WIDTH;
+
 // Puts v at place at + i, if the list has it.
 fn put_number(list: &mut [i64], at: usize, i: usize, v: i64)
     ensures { λ r. ⌜ now (list .exit) ≡ set (now (list .entry)) (at + i) v ⌝ }

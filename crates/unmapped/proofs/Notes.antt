@@ -11,7 +11,7 @@ use Rattle.text.proofs.Orders.{order-is, order-turned, order-trans}
 use Rattle.names.specs.Put.{put}
 use Rattle.names.proofs.Puts.{put-none, length-put}
 use Rattle.report.specs.Rows.{Place, Unmapped}
-use Rattle.report.specs.Encoding.{unmappedRow, rowsOf}
+use Rattle.report.specs.Encoding.{unmappedWidth, unmappedRow, rowsOf}
 use Rattle.settlement.specs.Document.{Doc}
 use Rattle.settlement.specs.Settlement.{unmappedKey, unmappedOrder}
 use Rattle.settlement.specs.Sorted.{Ascending}
@@ -72,7 +72,7 @@ insert-length {A} c u (b ∷ l) = go (c u b) (insert-length c u l)
 abbrev front : List ℤ → List (Unmapped Place) → Rows
 front lent us = record { list = put lent 0 (rowsOf unmappedRow us); count = length us }
 
-module _ (x : List ℕ) (lent : List ℤ) (us : List (Unmapped Place)) (u : Unmapped Place) (room : (length us + 1) * 3 ≤ length lent) (sorted : Ascending (elementOrder x) us) where
+module _ (x : List ℕ) (lent : List ℤ) (us : List (Unmapped Place)) (u : Unmapped Place) (room : (length us + 1) * unmappedWidth ≤ length lent) (sorted : Ascending (elementOrder x) us) where
   -- how the element stands to a row is how it stands to the row's element
   stands : (k : ℕ) → k < length us → standing x (put lent 0 (rowsOf unmappedRow us)) u k ≡ elementOrder x u (getD us k u)
   unfolding standing elementOrder
@@ -115,14 +115,14 @@ module _ (x : List ℕ) (lent : List ℤ) (us : List (Unmapped Place)) (u : Unma
   unfolding noting
   noting-inserts =
       let e = length-put lent 0 (rowsOf unmappedRow us) in
-      rw (lt-leb (length (put lent 0 (rowsOf unmappedRow us)) / 3) (length us) (omega arith)) (at-spot met)
+      rw (lt-leb (length (put lent 0 (rowsOf unmappedRow us)) / unmappedWidth) (length us) (omega arith)) (at-spot met)
 
 -- no elements yet
 pub listed-none : (x : List ℕ) (lent : List ℤ) → Listed x lent [] lent 0
 unfolding rowsOf
 listed-none x lent = record { rows = sym (put-none lent 0); count = refl; sorted = tt; room = omega arith }
 
-module _ {x : List ℕ} {lent now : List ℤ} {us : List (Unmapped Place)} {n : ℕ} (u : Unmapped Place) (l : Listed x lent us now n) (room : (length us + 1) * 3 ≤ length lent) where
+module _ {x : List ℕ} {lent now : List ℤ} {us : List (Unmapped Place)} {n : ℕ} (u : Unmapped Place) (l : Listed x lent us now n) (room : (length us + 1) * unmappedWidth ≤ length lent) where
   noting-is : noting x now n u ≡ front lent (insert (elementOrder x) u us)
   noting-is = ap (λ (m : List ℤ). noting x m n u) (l .rows) ∙ ap (λ (k : ℕ). noting x (put lent 0 (rowsOf unmappedRow us)) k u) (l .count) ∙ noting-inserts x lent us u room (l .sorted)
 
@@ -142,7 +142,7 @@ module _ {x : List ℕ} {lent now : List ℤ} {us : List (Unmapped Place)} {n : 
 
 -- elements that are noted one after the other, with room for them all
 pub noted-all :
-    {x : List ℕ} {lent now now′ : List ℤ} {us : List (Unmapped Place)} {n n′ : ℕ} (vs : List (Unmapped Place)) → Listed x lent us now n → (length us + length vs) * 3 ≤ length lent → Noted (notings x now n vs) now′ n′ →
+    {x : List ℕ} {lent now now′ : List ℤ} {us : List (Unmapped Place)} {n n′ : ℕ} (vs : List (Unmapped Place)) → Listed x lent us now n → (length us + length vs) * unmappedWidth ≤ length lent → Noted (notings x now n vs) now′ n′ →
     Listed x lent (insertAll (elementOrder x) us vs) now′ n′
 unfolding notings insertAll
 noted-all [] l room w = record { rows = w .list ∙ l .rows; count = w .count ∙ l .count; sorted = l .sorted; room = l .room }

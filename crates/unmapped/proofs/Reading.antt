@@ -17,6 +17,7 @@ use Rattle.text.specs.Span.{clipped}
 use Rattle.text.proofs.Bools.{not-both}
 use Rattle.names.specs.Parent.{parentNumber}
 use Rattle.report.specs.Rows.{Place, Unmapped}
+use Rattle.report.specs.Encoding.{unmappedWidth}
 use Rattle.settlement.specs.TableDoc.{shows}
 use Rattle.unmapped.specs.Row.{orZero, number, rowKey, elementKey, standing}
 
@@ -54,7 +55,7 @@ past-end l n h = rw (List·getD-eq-default l (pos 0) h)
 
 pub past-rows : (l : List ℤ) (k j : ℕ) → length l ≤ k → 0 ≡ number l k j
 unfolding number
-past-rows l k j h = past-end l (k * 3 + j) (omega arith)
+past-rows l k j h = past-end l (k * unmappedWidth + j) (omega arith)
 
 -- how an element stands to a row: by their parents, or else by their names
 module _ (x : List ℕ) (l : List ℤ) (u : Unmapped Place) (k : ℕ) {own held : ℕ} (p : own ≡ parentNumber (u .parent)) (q : held ≡ number l k 0) where

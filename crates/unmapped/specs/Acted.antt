@@ -6,13 +6,14 @@ use lib.IntN.{ℤ}
 use Rattle.report.specs.Rows.{Place}
 use Rattle.report.specs.Encoding.{heldRow, rowsOf}
 use Rattle.report.specs.Placed.{Placed}
+use Rattle.report.specs.declared.cursor.Cursor.{Cursor}
 use Rattle.settlement.specs.Shapes.{Act}
 use Rattle.values.specs.Told.{Said}
 use Rattle.unmapped.specs.Noting.{notings, Noted}
 
 -- the state is the next one, and what is held, said and not mapped was put into the three lists, each behind what it had
-pub record Acted {S : Type 0} (a : Act Place S) (x : List ℕ) (next : S) (h : List ℤ) (heldAt : ℕ) (h′ : List ℤ) (heldNext : ℕ) (e : List ℤ) (at : ℕ) (e′ : List ℤ) (atNext : ℕ) (u : List ℤ) (count : ℕ) (u′ : List ℤ) (countNext : ℕ) : Type 0 where
+pub record Acted {S : Type 0} (a : Act Place S) (x : List ℕ) (next : S) (c c′ : Cursor) (h h′ e e′ u u′ : List ℤ) : Type 0 where
   pub same : next ≡ a .next
-  pub held : Placed h heldAt (rowsOf heldRow (a .holds)) h′ heldNext
-  pub said : Said (a .says) e at e′ atNext
-  pub noted : Noted (notings x u count (a .strays)) u′ countNext
+  pub held : Placed h (c .held) (rowsOf heldRow (a .holds)) h′ (c′ .held)
+  pub said : Said (a .says) e (c .entries) e′ (c′ .entries)
+  pub noted : Noted (notings x u (c .unmapped) (a .strays)) u′ (c′ .unmapped)

@@ -6,7 +6,7 @@ use lib.IntN.{ℤ}
 use lib.ListN.{length}
 use Rattle.names.specs.Put.{put}
 use Rattle.report.specs.Rows.{Place, Unmapped}
-use Rattle.report.specs.Encoding.{unmappedRow, rowsOf}
+use Rattle.report.specs.Encoding.{unmappedWidth, unmappedRow, rowsOf}
 use Rattle.settlement.specs.Sorted.{Ascending}
 use Rattle.unmapped.specs.Row.{elementOrder}
 
@@ -15,4 +15,4 @@ pub record Listed (x : List ℕ) (lent : List ℤ) (us : List (Unmapped Place)) 
   pub rows : now ≡ put lent 0 (rowsOf unmappedRow us)
   pub count : n ≡ length us
   pub sorted : Ascending (elementOrder x) us
-  pub room : length us * 3 ≤ length lent
+  pub room : length us * unmappedWidth ≤ length lent

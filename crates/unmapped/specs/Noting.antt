@@ -9,7 +9,7 @@ use lib.ListN.{length}
 use lib.Seq.{slice}
 use Rattle.names.specs.Put.{put}
 use Rattle.report.specs.Rows.{Place, Unmapped}
-use Rattle.report.specs.Encoding.{unmappedRow}
+use Rattle.report.specs.Encoding.{unmappedWidth, unmappedRow}
 use Rattle.unmapped.specs.declared.search.Spot.{Spot}
 use Rattle.unmapped.specs.declared.search.Spot.the-variants.{Taken, Free}
 use Rattle.unmapped.specs.Search.{sought}
@@ -21,7 +21,7 @@ pub record Rows : Type 0 where
 
 -- a row put before row k of count, the later ones moved behind it
 unfoldable pub inserted : List ℤ → ℕ → Unmapped Place → ℕ → Rows
-inserted l count u k = record { list = put l (k * 3) (unmappedRow u ++ slice (k * 3) (count * 3) l); count = count + 1 }
+inserted l count u k = record { list = put l (k * unmappedWidth) (unmappedRow u ++ slice (k * unmappedWidth) (count * unmappedWidth) l); count = count + 1 }
 
 -- by the spot that was found
 abbrev pub atSpot : Spot → List ℤ → ℕ → Unmapped Place → Rows
@@ -30,7 +30,7 @@ atSpot (Free k) l count u = inserted l count u k
 
 -- an element noted; nothing changes where there is no room for one row more
 unfoldable pub noting : List ℕ → List ℤ → ℕ → Unmapped Place → Rows
-noting x l count u = cond (leb (length l / 3) count) (record { list = l; count = count }) (atSpot (sought x l count u) l count u)
+noting x l count u = cond (leb (length l / unmappedWidth) count) (record { list = l; count = count }) (atSpot (sought x l count u) l count u)
 
 -- elements noted one after the other
 unfoldable pub notings : List ℕ → List ℤ → ℕ → List (Unmapped Place) → Rows

@@ -7,6 +7,7 @@ use Rattle.text.specs.Order.{order}
 use Rattle.text.specs.Span.{clipped}
 use Rattle.names.specs.Parent.{parentNumber}
 use Rattle.report.specs.Rows.{Place, Unmapped}
+use Rattle.report.specs.Encoding.{unmappedWidth}
 use Rattle.settlement.specs.TableDoc.{shows}
 
 -- a signed number as a place or a length: 0 where it is negative
@@ -16,7 +17,7 @@ orZero (negsuc n) = 0
 
 -- number j of row k
 unfoldable pub number : List ℤ → ℕ → ℕ → ℕ
-number l k j = orZero (getD l (k * 3 + j) (pos 0))
+number l k j = orZero (getD l (k * unmappedWidth + j) (pos 0))
 
 -- the parent's number of row k, then the bytes of its name
 unfoldable pub rowKey : List ℕ → List ℤ → ℕ → List ℕ

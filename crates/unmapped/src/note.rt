@@ -4,6 +4,7 @@ ghost use Prim.Native.Nat.{_+_, _*_, _/_, _≤_, _<_};
 ghost use lib.ListN.{length};
 ghost use lib.Seq.{slice};
 ghost use Rattle.names.specs.Put.{put};
+ghost use Rattle.report.specs.Encoding.{unmappedWidth};
 ghost use Rattle.report.specs.Values.{unmappedOf};
 ghost use Rattle.unmapped.specs.Noting.{Noted, inserted, noting};
 use crate::search::Spot;
@@ -14,8 +15,8 @@ use report::put_unmapped;
 
 // Moves the numbers from a place up to an end by one row, from the last to the first.
 fn move_up(list: &mut [i64], at: usize, end: usize)
-    requires { ⌜ (at ≤ end) × (end + 3 ≤ length (now list)) ⌝ }
-    ensures { λ _. ⌜ now (list .exit) ≡ put (now (list .entry)) (at + 3) (slice at end (now (list .entry))) ⌝ }
+    requires { ⌜ (at ≤ end) × (end + unmappedWidth ≤ length (now list)) ⌝ }
+    ensures { λ _. ⌜ now (list .exit) ≡ put (now (list .entry)) (at + unmappedWidth) (slice at end (now (list .entry))) ⌝ }
 {
     let mut i = end;
     while at < i {
@@ -27,7 +28,7 @@ fn move_up(list: &mut [i64], at: usize, end: usize)
 
 // Puts an element's row before row k of count, and answers how many rows there are then.
 fn insert_row(list: &mut [i64], count: usize, u: Unmapped, k: usize) -> usize
-    requires { ⌜ (k ≤ count) × (count < length (now list) / 3) ⌝ }
+    requires { ⌜ (k ≤ count) × (count < length (now list) / unmappedWidth) ⌝ }
     ensures { λ r. ⌜ Noted (inserted (now (list .entry)) count (unmappedOf u) k) (now (list .exit)) r ⌝ }
 {
     let at = k * UNMAPPED_WIDTH;

@@ -4,9 +4,11 @@ ghost use Prim.Native.Nat.{_<_};
 ghost use lib.IntN.{pos};
 ghost use lib.ListN.{getD};
 ghost use Rattle.text.specs.Order.{ordering};
+ghost use Rattle.report.specs.Encoding.{unmappedWidth};
 ghost use Rattle.report.specs.Values.{unmappedOf};
 ghost use Rattle.unmapped.specs.Row as row;
 ghost use Rattle.unmapped.specs.Row.{orZero};
+use report::UNMAPPED_WIDTH;
 use report::Unmapped;
 use text::Ordering;
 
@@ -37,13 +39,13 @@ fn number_at(list: &[i64], n: usize) -> usize
     0
 }
 
-// One of the three numbers of row k.
+// Number j of row k.
 fn number(list: &[i64], k: usize, j: usize) -> usize
-    requires { ⌜ j < 3 ⌝ }
+    requires { ⌜ j < unmappedWidth ⌝ }
     ensures { λ r. ⌜ r ≡ row.number (now (list .entry)) k j ⌝ }
 {
     if k < list.len() {
-        return number_at(list, k * 3 + j);
+        return number_at(list, k * UNMAPPED_WIDTH + j);
     }
     0
 }

@@ -31,8 +31,10 @@ const HELD: usize = 14;
 const ENTRY: usize = 6;
 const UNMAPPED: usize = 3;
 const ANSWER: usize = 65;
-/// Most entries a record.
-const ENTRIES: usize = 4;
+/// The room that refusal 10 asks for each record: a held row, four entries, an unmapped row.
+pub const HELD_ROOM: usize = HELD;
+pub const ENTRY_ROOM: usize = 4 * ENTRY;
+pub const UNMAPPED_ROOM: usize = UNMAPPED;
 
 /// What a list holds before a call; no row has such a number.
 const OLD: i64 = i64::MIN + 7;
@@ -61,9 +63,9 @@ impl Lists {
     /// Room for a table of so many records, no more than refusal 10 asks for.
     pub fn of_records(records: usize) -> Self {
         Self {
-            held: vec![OLD; HELD * records],
-            entries: vec![OLD; ENTRIES * ENTRY * records],
-            unmapped: vec![OLD; UNMAPPED * records],
+            held: vec![OLD; HELD_ROOM * records],
+            entries: vec![OLD; ENTRY_ROOM * records],
+            unmapped: vec![OLD; UNMAPPED_ROOM * records],
             answer: [OLD; ANSWER],
         }
     }

@@ -5,7 +5,7 @@
 
 use compare::generate::Document;
 use compare::layout::{self, Layout};
-use compare::library::{self, Lent, Lists, Refusal};
+use compare::library::{self, ENTRY_ROOM, HELD_ROOM, Lent, Lists, Refusal, UNMAPPED_ROOM};
 use compare::print::printed;
 use compare::reading::Reading;
 use compare::tree::Tree;
@@ -113,10 +113,11 @@ fn limits() {
     assert_eq!(roomy(&table(4097, 100, false)), Some((4, 0)), "4 is before 9");
     for n in [1, 2, 100, 4096] {
         let settlement = table(n, 100, true);
-        assert_eq!(refusal(&settlement, 14 * n, 24 * n, 3 * n), None);
-        assert_eq!(refusal(&settlement, 14 * n - 1, 24 * n, 3 * n), Some((10, 0)));
-        assert_eq!(refusal(&settlement, 14 * n, 24 * n - 1, 3 * n), Some((10, 0)));
-        assert_eq!(refusal(&settlement, 14 * n, 24 * n, 3 * n - 1), Some((10, 0)));
+        let [held, entries, unmapped] = [HELD_ROOM, ENTRY_ROOM, UNMAPPED_ROOM].map(|room| room * n);
+        assert_eq!(refusal(&settlement, held, entries, unmapped), None);
+        assert_eq!(refusal(&settlement, held - 1, entries, unmapped), Some((10, 0)));
+        assert_eq!(refusal(&settlement, held, entries - 1, unmapped), Some((10, 0)));
+        assert_eq!(refusal(&settlement, held, entries, unmapped - 1), Some((10, 0)));
         assert_eq!(refusal(&settlement, 0, 0, 0), Some((10, 0)));
         assert_eq!(refusal(&table(n, 100, false), 0, 0, 0), Some((9, 0)), "9 is before 10");
     }

@@ -7,4 +7,5 @@ returns : tie.Need-returns
 returns c = search tab-shown
 
 pub put-field-spec : {M : Type 1} → statement M
-put-field-spec = tie.close (tie.spec (λ c κs. search needs) (λ c κs. search needs) (λ c. search needs) returns)
+put-field-spec =
+    tie.close (tie.spec (λ c κs. search needs) (λ c κs. search needs) (λ c κs. search needs) (λ c. search needs) returns)

@@ -1,7 +1,8 @@
 use native.Mathlib.Omega.{arith}
 use borrow.Author.Needs.{needs}
 use Rattle.report.specs.Encoding.{heldWidth, entryWidth, unmappedWidth}
-use Rattle.printed.specs.Numbers.{cell, lineCount}
+use Rattle.fields.specs.Columns.{cell}
+use Rattle.printed.specs.Numbers.{lineCount}
 use Rattle.printed.proofs.Counting.{in-list}
 use Rattle.printed.proofs.count.line_count.Statement.{statement}
 use Rattle.printed.proofs.count.line_count.Tie as tie

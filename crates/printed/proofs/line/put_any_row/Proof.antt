@@ -1,7 +1,7 @@
 use native.Mathlib.Omega.{arith}
 use borrow.Author.Needs.{needs}
 use Rattle.report.specs.Encoding.{heldWidth}
-use Rattle.printed.specs.Numbers.{cell}
+use Rattle.fields.specs.Columns.{cell}
 use Rattle.printed.proofs.Counting.{in-list}
 use Rattle.printed.proofs.Dispatch.{any-held, any-later}
 use Rattle.printed.proofs.line.put_any_row.Statement.{statement}

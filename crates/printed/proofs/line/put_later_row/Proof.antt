@@ -1,7 +1,7 @@
 use native.Mathlib.Omega.{arith}
 use borrow.Author.Needs.{needs}
 use Rattle.report.specs.Encoding.{entryWidth, unmappedWidth}
-use Rattle.printed.specs.Numbers.{cell}
+use Rattle.fields.specs.Columns.{cell}
 use Rattle.printed.proofs.Counting.{in-list}
 use Rattle.printed.proofs.Dispatch.{later-entry, later-unmapped, later-none}
 use Rattle.printed.proofs.line.put_later_row.Statement.{statement}

@@ -1,16 +1,15 @@
 use borrow.Author.Needs.{needs}
 use Rattle.text.specs.Utf8.{bytes, encode}
-use Rattle.fields.specs.Columns.{columnOf, columnsOf}
+use Rattle.fields.specs.Columns.{columnOf}
 use Rattle.printed.proofs.Putting.{start-put}
 use Rattle.printed.proofs.row.put_entry_start.Statement.{statement}
 use Rattle.printed.proofs.row.put_entry_start.Tie as tie
 
 returns : tie.Need-returns
-unfolding bytes encode columnOf columnsOf
+unfolding bytes encode columnOf
 returns c =
     let b = c .before .before .before .before .before .before in
-    let b′ = b .before .before .before .before .before in
-    start-put _ _ (b′ .put-bytes .ensures) (b .put-fields .ensures) (c .before .before .put-path .ensures)
+    start-put _ _ (b .before .before .before .before .put-bytes .ensures) (b .put-field .ensures) (c .before .before .put-path .ensures)
 
 pub put-entry-start-spec : {M : Type 1} → statement M
 put-entry-start-spec =
@@ -18,7 +17,6 @@ put-entry-start-spec =
     (tie.spec
     (λ c. search needs)
     (λ c κs. search needs)
-    (λ c. search needs)
     (λ c κs. search needs)
     (λ c κs. search needs)
     (λ c. search needs)

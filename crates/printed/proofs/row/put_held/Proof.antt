@@ -1,9 +1,9 @@
 use mathlib.Core.Path.{ap}
 use borrow.Author.Needs.{needs}
 use Rattle.text.specs.Utf8.{bytes, encode}
+use Rattle.report.specs.Columns.{heldColumns}
 use Rattle.fields.specs.Line.{line}
 use Rattle.fields.specs.Columns.{columnOf, columnsOf}
-use Rattle.printed.specs.Numbers.{heldColumns}
 use Rattle.printed.proofs.Putting.{held-put, kind-other}
 use Rattle.printed.proofs.row.put_held.Statement.{statement}
 use Rattle.printed.proofs.row.put_held.Tie as tie

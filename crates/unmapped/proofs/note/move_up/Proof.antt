@@ -6,12 +6,13 @@ use lib.ListN.{length, length-set}
 use lib.Seq.{slice}
 use mir.Facts.{toZ-ofZ}
 use Rattle.names.specs.Put.{put}
+use Rattle.report.specs.Encoding.{unmappedWidth}
 use Rattle.unmapped.proofs.Moves.{move-none, move-turn}
 use Rattle.unmapped.proofs.note.move_up.Statement.{statement}
 use Rattle.unmapped.proofs.note.move_up.Tie as tie
 
 abbrev Inv-loop : tie.InvT-loop
-Inv-loop list₀ at end i₀ list i = (at ≤ i) × (i ≤ end) × (length list ≡ length list₀) × (list ≡ put list₀ (i + 3) (slice i end list₀))
+Inv-loop list₀ at end i₀ list i = (at ≤ i) × (i ≤ end) × (length list ≡ length list₀) × (list ≡ put list₀ (i + unmappedWidth) (slice i end list₀))
 
 abbrev μ-loop : tie.MeasureT-loop
 μ-loop list₀ at end i₀ list i = i
@@ -39,7 +40,7 @@ returns c =
     let a = c .before .before .args in
     let l = c .before .loop in
     let e : l .i ≡ a .at = omega arith in
-    l .inv .3 ∙ ap (λ m. put (a .list .now) (m + 3) (slice m (a .end) (a .list .now))) e
+    l .inv .3 ∙ ap (λ m. put (a .list .now) (m + unmappedWidth) (slice m (a .end) (a .list .now))) e
 
 pub move-up-spec : {M : Type 1} → statement M
 move-up-spec =

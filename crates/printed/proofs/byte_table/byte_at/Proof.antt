@@ -1,8 +1,8 @@
 use mathlib.Core.Path.{sym}
 use lib.ListN.{List·getD-eq-default}
 use borrow.Author.Needs.{needs}
-use Rattle.printed.proofs.table.byte_at.Statement.{statement}
-use Rattle.printed.proofs.table.byte_at.Tie as tie
+use Rattle.printed.proofs.byte_table.byte_at.Statement.{statement}
+use Rattle.printed.proofs.byte_table.byte_at.Tie as tie
 
 returns-2 : tie.Need-returns-2
 returns-2 c = sym (List·getD-eq-default (c .before .args .table .now) 0 (c .if1 .left))

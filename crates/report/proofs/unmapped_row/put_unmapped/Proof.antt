@@ -1,8 +1,8 @@
 use borrow.Author.Needs.{needs}
 use Rattle.report.specs.Encoding.{unmappedRow}
 use Rattle.report.proofs.Cells.{as-row, cell, cell-of}
-use Rattle.report.proofs.unmapped.put_unmapped.Statement.{statement}
-use Rattle.report.proofs.unmapped.put_unmapped.Tie as tie
+use Rattle.report.proofs.unmapped_row.put_unmapped.Statement.{statement}
+use Rattle.report.proofs.unmapped_row.put_unmapped.Tie as tie
 
 returns : tie.Need-returns
 unfolding unmappedRow

@@ -1,7 +1,7 @@
 use borrow.Author.Needs.{needs}
 use Rattle.fields.proofs.Rows.{number-past}
-use Rattle.fields.proofs.field.number_at.Statement.{statement}
-use Rattle.fields.proofs.field.number_at.Tie as tie
+use Rattle.fields.proofs.row.number_at.Statement.{statement}
+use Rattle.fields.proofs.row.number_at.Tie as tie
 
 returns : tie.Need-returns
 returns c = search number-past
