@@ -7,17 +7,11 @@ use Prim.Native.Nat.{ℕ}
 use Rattle.report.specs.Rows.{Place, AllowanceCharge, charge}
 use Rattle.settlement.specs.Document.{Doc, maybe}
 use Rattle.settlement.specs.Shapes.{Counts, Act}
-use Rattle.settlement.specs.Tax.{counted, categoryOf, categoryIn, allowanceChargeOf, allowanceOrCharge, logistics, logisticsRead, logisticsLeft}
-use Rattle.settlement.specs.Values.{Lent, Says, requiredAmount}
-use Rattle.values.specs.Sites.{lentOf}
+use Rattle.settlement.specs.Tax.{counted, allowanceChargeOf, allowanceOrCharge, logistics, logisticsRead, logisticsLeft}
+use Rattle.settlement.specs.Values.{Lent, Says}
 use Rattle.charges.specs.Charges.{heldAs, rowSays, allowanceChargeSays, logisticsRow, logisticsSays}
 
 module _ (L : Lent) (D : Doc ℕ Place) (s : Counts) (n : ℕ) where
-  -- an allowance or a charge does not depend on the identifier
-  pub allowance-charge-any : allowanceChargeSays (lentOf (L .mode) (L .rules) (L .currency)) D s n ≡ allowanceChargeSays L D s n
-  unfolding allowanceChargeSays rowSays categoryOf categoryIn requiredAmount
-  allowance-charge-any = refl
-
   -- it says what the definition says
   pub allowance-charge-says : allowanceChargeSays L D s n .1 ≡ allowanceOrCharge L D s n .says
   unfolding allowanceChargeSays rowSays allowanceOrCharge allowanceChargeOf

@@ -11,9 +11,9 @@ use Rattle.names.specs.declared.path.Path.the-variants as Path
 use Rattle.names.specs.declared.term.Term.the-variants as Term
 use Rattle.report.specs.Rows.{Place, Held, AllowanceCharge, allowance, charge}
 use Rattle.report.specs.Values.{allowanceChargeOf}
-use Rattle.settlement.specs.Document.{Doc}
+use Rattle.settlement.specs.Document.{Doc, maybe}
 use Rattle.settlement.specs.Shapes.{Counts}
-use Rattle.settlement.specs.Tax.{TaxPaths, categoryPaths, appliedPaths, GroupTerms, groupTerms, isCharge, categoryOf}
+use Rattle.settlement.specs.Tax.{TaxPaths, categoryPaths, appliedPaths, GroupTerms, groupTerms, isCharge, categoryIn, categoryOf}
 use Rattle.settlement.specs.Values.{Lent, Says, site, grouped, entry, kidText, missing, amount, requiredAmount, percent}
 use Rattle.charges.specs.declared.shapes.Group as Code
 use Rattle.charges.specs.declared.shapes.TaxPaths as CodePaths
@@ -44,6 +44,10 @@ heldAs b a = cond b charge allowance a
 -- a category whose element is missing: "" and no rate, and message 9 with the path of its parent
 unfoldable pub noCategory : ℕ → Path → GroupTerms → ℕ → Says Place (Place × Option (ℤ × ℕ))
 noCategory rules parent t g = ((record { start = 0; len = 0 }, none), missing rules (t .categoryRule) (grouped parent (t .category) g))
+
+-- the category and rate in a child, if there is one; `category-kid` joins it to the definition of the reading
+unfoldable pub categoryFound : Lent → Doc ℕ Place → TaxPaths → GroupTerms → ℕ → Option ℕ → Says Place (Place × Option (ℤ × ℕ))
+categoryFound L D p t g o = maybe (noCategory (L .rules) (p .parent) t g) (categoryIn L D p t g) o
 
 -- the base of an allowance or a charge
 abbrev pub basisAmount : ℕ → List ℕ → Doc ℕ Place → GroupTerms → ℕ → ℕ → Says Place (Option ℤ)

@@ -1,11 +1,12 @@
 // The VAT category and rate of an allowance or a charge.
-ghost use mathlib.Core.List.{[]};
+ghost use mathlib.Core.List.{List};
+ghost use Prim.Native.Nat.{ℕ};
+ghost use Rattle.table.specs.Table.{found};
 ghost use Rattle.report.specs.Values.{placeOf, percentOf};
-ghost use Rattle.settlement.specs.Tax as reading;
 ghost use Rattle.element.specs.LinkDoc.{linkDoc};
 ghost use Rattle.values.specs.Sites.{lentOf};
 ghost use Rattle.values.specs.Told.{Told};
-ghost use Rattle.charges.specs.Charges.{groupTermsOf, taxPathsOf, noCategory};
+ghost use Rattle.charges.specs.Charges.{groupTermsOf, taxPathsOf, noCategory, categoryFound};
 use crate::shapes::Group;
 use crate::shapes::TaxPaths;
 use groups::Category;
@@ -13,6 +14,7 @@ use groups::CategorySaid;
 use names::Path;
 use report::Percent;
 use report::Place;
+use values::Lent;
 
 // What is answered for a category whose element is missing, which is said with the path of its parent.
 fn absent(entries: &mut [i64], at: usize, rules: u32, parent: Path, g: Group) -> CategorySaid
@@ -28,21 +30,19 @@ fn absent(entries: &mut [i64], at: usize, rules: u32, parent: Path, g: Group) ->
     }
 }
 
-// The category in the first child of a name of element n.
+// The category in a child e that was looked for.
 pub(crate) fn required_trade_tax(
     table: &[u32],
     text: &[u8],
     links: &[u16],
-    mode: u32,
-    rules: u32,
+    lent: Lent,
     entries: &mut [i64],
     at: usize,
     p: TaxPaths,
     g: Group,
-    n: usize,
-    want: &[u8],
+    e: usize,
 ) -> CategorySaid
-    ensures { λ r. ⌜ Told (reading.categoryOf (lentOf mode rules []) (linkDoc (now (table .entry)) (now (text .entry)) (now (links .entry))) (taxPathsOf p) (groupTermsOf g) (g .index) n (now (want .entry))) (now (entries .entry)) at ((placeOf (r .category), percentOf (r .rate))) (now (entries .exit)) (r .at) ⌝ }
+    ensures { λ r. ⌜ ((currency : List ℕ) → Told (categoryFound (lentOf lent currency) (linkDoc (now (table .entry)) (now (text .entry)) (now (links .entry))) (taxPathsOf p) (groupTermsOf g) (g .index) (found e)) (now (entries .entry)) at ((placeOf (r .category), percentOf (r .rate))) (now (entries .exit)) (r .at)) ⌝ }
 {
     let parent = p.parent;
     let code = p.type_code;
@@ -52,9 +52,8 @@ pub(crate) fn required_trade_tax(
     let rate = g.rate;
     let rule = g.category_rule;
     let index = g.index;
-    let e = element::kid(table, text, links, n, want);
     if e == 0 {
-        return absent(entries, at, rules, parent, g);
+        return absent(entries, at, lent.rules, parent, g);
     }
     let of = Category {
         code,
@@ -64,5 +63,5 @@ pub(crate) fn required_trade_tax(
         rate,
         rule,
     };
-    groups::trade_tax(table, text, links, mode, rules, entries, at, of, index, e)
+    groups::trade_tax(table, text, links, lent, entries, at, of, index, e)
 }

@@ -12,7 +12,7 @@ use Rattle.settlement.specs.Settlement.{kindOf}
 use Rattle.settlement.specs.Values.{Lent}
 use Rattle.element.specs.LinkDoc.{linkDoc}
 use Rattle.children.specs.Counts.{Counted}
-use Rattle.means.specs.declared.Next.{Next}
+use Rattle.report.specs.declared.cursor.Cursor.{Cursor}
 use Rattle.kinds.specs.Kinds.{kindIs}
 use Rattle.steps.specs.States.{state}
 use Rattle.steps.specs.Steps.{Stepped}
@@ -68,7 +68,7 @@ module _ (L : Lent) (t x l : List ℕ) (n : ℕ) (s₀ : Code.State) (h₀ e₀ 
         kindIs i ≡ kindOf (linkDoc t x l) c →
         {r : Code.State} {h′ e′ u′ : List ℤ} →
         Stepped (kindIs j) L (linkDoc t x l) x c s r h h′ e e′ u u′ →
-        {p : Plain} {y : Tally} {b : Billing} {m : MaybeTotals} {q : Next} {h″ e″ u″ : List ℤ} →
+        {p : Plain} {y : Tally} {b : Billing} {m : MaybeTotals} {q : Cursor} {h″ e″ u″ : List ℤ} →
         h″ ≡ h′ →
         e″ ≡ e′ →
         u″ ≡ u′ →
@@ -76,7 +76,7 @@ module _ (L : Lent) (t x l : List ℕ) (n : ℕ) (s₀ : Code.State) (h₀ e₀ 
         y ≡ r .tally →
         b ≡ r .billing →
         m ≡ r .totals →
-        q ≡ r .next →
+        q ≡ r .cursor →
         (d : ℕ) →
         d ≡ link l c 2 →
         Reached L t x l n s₀ h₀ e₀ u₀ (left - 1) d (state p y b m q) h″ e″ u″

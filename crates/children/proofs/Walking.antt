@@ -34,7 +34,7 @@ module _ (L : Lent) (D : Doc ℕ Place) (x : List ℕ) where
   -- no child yet
   pub walked-none : (s : Code.State) (h e u : List ℤ) → Walked L D x [] s s h h e e u u
   unfolding all
-  walked-none s h e u = record { state = refl; held = rows-none heldRow h (s .next .«held_at»); said = said-none e (s .next .at); noted = notings-none x u (s .next .count) }
+  walked-none s h e u = record { state = refl; held = rows-none heldRow h (s .cursor .held); said = said-none e (s .cursor .entries); noted = notings-none x u (s .cursor .unmapped) }
 
   module _ {cs : List ℕ} {c : ℕ} {s w r : Code.State} {h h₁ h₂ e e₁ e₂ u u₁ u₂ : List ℤ} (p : Walked L D x cs s w h h₁ e e₁ u u₁) (q : Stepped (kindOf D c) L D x c w r h₁ h₂ e₁ e₂ u₁ u₂) where
     abbrev before : State Place
@@ -44,15 +44,15 @@ module _ (L : Lent) (D : Doc ℕ Place) (x : List ℕ) where
     unfolding step act stepBy actBy
     stepped-state = q .state ∙ ap (λ (v : State Place). step L D v c) (p .state)
 
-    stepped-held : Placed h₁ (w .next .«held_at») (rowsOf heldRow (holdsOf L D before c)) h₂ (r .next .«held_at»)
+    stepped-held : Placed h₁ (w .cursor .held) (rowsOf heldRow (holdsOf L D before c)) h₂ (r .cursor .held)
     unfolding holdsOf act actBy
     stepped-held = rw (p .state) at (q .held)
 
-    stepped-said : Said (saysOf L D before c) e₁ (w .next .at) e₂ (r .next .at)
+    stepped-said : Said (saysOf L D before c) e₁ (w .cursor .entries) e₂ (r .cursor .entries)
     unfolding saysOf act actBy
     stepped-said = rw (p .state) at (q .said)
 
-    stepped-noted : Noted (notings x u₁ (w .next .count) (straysOf L D before c)) u₂ (r .next .count)
+    stepped-noted : Noted (notings x u₁ (w .cursor .unmapped) (straysOf L D before c)) u₂ (r .cursor .unmapped)
     unfolding straysOf act actBy
     stepped-noted = rw (p .state) at (q .noted)
 
@@ -63,7 +63,7 @@ module _ (L : Lent) (D : Doc ℕ Place) (x : List ℕ) where
           state = stepped-state ∙ sym (foldl-append (step L D) (stateOf s) cs (c ∷ []));
           held = rw (all-more (step L D) (holdsOf L D) (stateOf s) cs c) at (rows-then heldRow _ (holdsOf L D before c) (p .held) stepped-held);
           said = rw (all-more (step L D) (saysOf L D) (stateOf s) cs c) at (said-then (p .said) stepped-said);
-          noted = rw (all-more (step L D) (straysOf L D) (stateOf s) cs c) at (notings-then x u (s .next .count) _ (straysOf L D before c) (p .noted) stepped-noted);
+          noted = rw (all-more (step L D) (straysOf L D) (stateOf s) cs c) at (notings-then x u (s .cursor .unmapped) _ (straysOf L D before c) (p .noted) stepped-noted);
         }
 
   -- the children are those of another list that is the same

@@ -8,4 +8,4 @@
 mod rows;
 mod walk;
 
-pub use walk::read_settlement;
+pub use walk::settlement;

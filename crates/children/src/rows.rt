@@ -1,11 +1,10 @@
 // The children that make rows: VAT breakdowns, allowances, charges and preceding invoices.
-ghost use mathlib.Core.Bool.{Bool};
 ghost use mathlib.Core.List.{List};
 ghost use Prim.Native.Nat.{ℕ, _≤_};
 ghost use lib.IntN.{ℤ};
 ghost use Rattle.settlement.specs.Kinds.{tradeTax, allowanceCharge, logisticsCharge, precedingInvoice};
 ghost use Rattle.element.specs.LinkDoc.{linkDoc};
-ghost use Rattle.values.specs.Sites.{lentWith};
+ghost use Rattle.values.specs.Sites.{lentOf};
 ghost use Rattle.children.specs.Counts.{Counted};
 ghost use Rattle.kinds.specs.Kinds.{rowIs};
 ghost use Rattle.steps.specs.States.{state};
@@ -14,14 +13,16 @@ ghost use Rattle.steps.specs.declared.state.Plain.{Plain};
 ghost use Rattle.steps.specs.declared.state.Billing.{Billing};
 ghost use Rattle.steps.specs.declared.state.MaybeTotals.{MaybeTotals};
 use charges::MaybeCharge;
+use groups::VatState;
 use kinds::RowKind;
-use means::Next;
+use report::Cursor;
 use steps::Tally;
+use values::Lent;
 
 // A tally, and where the next rows go.
 pub(crate) struct Tallied {
     pub(crate) tally: Tally,
-    pub(crate) next: Next,
+    pub(crate) cursor: Cursor,
 }
 
 // BG-23: the VAT breakdown that element c is.
@@ -29,45 +30,35 @@ fn vat_breakdown(
     table: &[u32],
     text: &[u8],
     links: &[u16],
-    mode: u32,
-    rules: u32,
+    lent: Lent,
     currency: &[u8],
     held: &mut [i64],
     entries: &mut [i64],
-    tally: Tally,
-    next: Next,
+    s: Tallied,
     c: usize,
 ) -> Tallied
-    requires { ⌜ tally .breakdowns ≤ 4095 ⌝ }
-    ensures { λ r. ⌜ ((extension : Bool) (p : Plain) (b : Billing) (m : MaybeTotals) (u : List ℤ) → Stepped tradeTax (lentWith mode rules (now (currency .entry)) extension) (linkDoc (now (table .entry)) (now (text .entry)) (now (links .entry))) (now (text .entry)) c (state p tally b m next) (state p (r .tally) b m (r .next)) (now (held .entry)) (now (held .exit)) (now (entries .entry)) (now (entries .exit)) u u) ⌝ }
+    requires { ⌜ s .tally .vat .breakdowns ≤ 4095 ⌝ }
+    ensures { λ r. ⌜ ((p : Plain) (b : Billing) (m : MaybeTotals) (u : List ℤ) → Stepped tradeTax (lentOf lent (now (currency .entry))) (linkDoc (now (table .entry)) (now (text .entry)) (now (links .entry))) (now (text .entry)) c (state p (s .tally) b m (s .cursor)) (state p (r .tally) b m (r .cursor)) (now (held .entry)) (now (held .exit)) (now (entries .entry)) (now (entries .exit)) u u) ⌝ }
 {
-    let index = tally.breakdowns;
-    let so_far = tally.vat;
-    let said = groups::vat_breakdown(
-        table,
-        text,
-        links,
-        mode,
-        rules,
-        currency,
-        entries,
-        next.at,
-        index,
-        so_far,
-        c,
-    );
-    let vat = said.state;
+    let tally = s.tally;
+    let cursor = s.cursor;
+    let vat = tally.vat;
+    let at = cursor.entries;
+    let said = groups::vat_breakdown(table, text, links, lent, currency, entries, at, vat, c);
     let row = said.vat;
+    let after = said.state;
     Tallied {
         tally: Tally {
-            vat,
-            breakdowns: index + 1,
+            vat: VatState {
+                breakdowns: vat.breakdowns + 1,
+                ..after
+            },
             ..tally
         },
-        next: Next {
-            held_at: report::put_vat(held, next.held_at, row),
-            at: said.at,
-            ..next
+        cursor: Cursor {
+            held: report::put_vat(held, cursor.held, row),
+            entries: said.at,
+            ..cursor
         },
     }
 }
@@ -77,52 +68,41 @@ fn allowance_charge(
     table: &[u32],
     text: &[u8],
     links: &[u16],
-    mode: u32,
-    rules: u32,
+    lent: Lent,
     currency: &[u8],
     held: &mut [i64],
     entries: &mut [i64],
-    tally: Tally,
-    next: Next,
+    s: Tallied,
     c: usize,
 ) -> Tallied
-    requires { ⌜ (tally .allowances ≤ 4095) × (tally .charges ≤ 4095) ⌝ }
-    ensures { λ r. ⌜ ((extension : Bool) (p : Plain) (b : Billing) (m : MaybeTotals) (u : List ℤ) → Stepped allowanceCharge (lentWith mode rules (now (currency .entry)) extension) (linkDoc (now (table .entry)) (now (text .entry)) (now (links .entry))) (now (text .entry)) c (state p tally b m next) (state p (r .tally) b m (r .next)) (now (held .entry)) (now (held .exit)) (now (entries .entry)) (now (entries .exit)) u u) ⌝ }
+    requires { ⌜ (s .tally .allowances ≤ 4095) × (s .tally .charges ≤ 4095) ⌝ }
+    ensures { λ r. ⌜ ((p : Plain) (b : Billing) (m : MaybeTotals) (u : List ℤ) → Stepped allowanceCharge (lentOf lent (now (currency .entry))) (linkDoc (now (table .entry)) (now (text .entry)) (now (links .entry))) (now (text .entry)) c (state p (s .tally) b m (s .cursor)) (state p (r .tally) b m (r .cursor)) (now (held .entry)) (now (held .exit)) (now (entries .entry)) (now (entries .exit)) u u) ⌝ }
 {
+    let tally = s.tally;
+    let cursor = s.cursor;
     let a = tally.allowances;
     let b = tally.charges;
-    let said = charges::allowance_charge(
-        table,
-        text,
-        links,
-        mode,
-        rules,
-        currency,
-        entries,
-        next.at,
-        a,
-        b,
-        c,
-    );
+    let at = cursor.entries;
+    let said = charges::allowance_charge(table, text, links, lent, currency, entries, at, a, b, c);
     let charge = said.charge;
     let row = said.row;
-    let next = Next {
-        held_at: charges::put_allowance_or_charge(held, next.held_at, charge, row),
-        at: said.at,
-        ..next
+    let cursor = Cursor {
+        held: charges::put_allowance_or_charge(held, cursor.held, charge, row),
+        entries: said.at,
+        ..cursor
     };
     if charge {
         let tally = Tally {
             charges: b + 1,
             ..tally
         };
-        return Tallied { tally, next };
+        return Tallied { tally, cursor };
     }
     let tally = Tally {
         allowances: a + 1,
         ..tally
     };
-    Tallied { tally, next }
+    Tallied { tally, cursor }
 }
 
 // BG-21: the charge that a logistics charge is under a conformant extension.
@@ -130,49 +110,40 @@ fn logistics_charge(
     table: &[u32],
     text: &[u8],
     links: &[u16],
-    mode: u32,
-    rules: u32,
+    lent: Lent,
     currency: &[u8],
-    extension: bool,
     held: &mut [i64],
     entries: &mut [i64],
-    tally: Tally,
-    next: Next,
+    s: Tallied,
     c: usize,
 ) -> Tallied
-    requires { ⌜ tally .charges ≤ 4095 ⌝ }
-    ensures { λ r. ⌜ ((p : Plain) (b : Billing) (m : MaybeTotals) (u : List ℤ) → Stepped logisticsCharge (lentWith mode rules (now (currency .entry)) extension) (linkDoc (now (table .entry)) (now (text .entry)) (now (links .entry))) (now (text .entry)) c (state p tally b m next) (state p (r .tally) b m (r .next)) (now (held .entry)) (now (held .exit)) (now (entries .entry)) (now (entries .exit)) u u) ⌝ }
+    requires { ⌜ s .tally .charges ≤ 4095 ⌝ }
+    ensures { λ r. ⌜ ((p : Plain) (b : Billing) (m : MaybeTotals) (u : List ℤ) → Stepped logisticsCharge (lentOf lent (now (currency .entry))) (linkDoc (now (table .entry)) (now (text .entry)) (now (links .entry))) (now (text .entry)) c (state p (s .tally) b m (s .cursor)) (state p (r .tally) b m (r .cursor)) (now (held .entry)) (now (held .exit)) (now (entries .entry)) (now (entries .exit)) u u) ⌝ }
 {
+    let tally = s.tally;
+    let cursor = s.cursor;
     let b = tally.charges;
-    let said = charges::logistics_charge(
-        table,
-        text,
-        links,
-        mode,
-        rules,
-        currency,
-        extension,
-        entries,
-        next.at,
-        b,
-        c,
-    );
+    let at = cursor.entries;
+    let said = charges::logistics_charge(table, text, links, lent, currency, entries, at, b, c);
     let charge = said.charge;
     let at = said.at;
     match charge {
         MaybeCharge::Absent => Tallied {
             tally,
-            next: Next { at, ..next },
+            cursor: Cursor {
+                entries: at,
+                ..cursor
+            },
         },
         MaybeCharge::Of(row) => Tallied {
             tally: Tally {
                 charges: b + 1,
                 ..tally
             },
-            next: Next {
-                held_at: report::put_charge(held, next.held_at, row),
-                at,
-                ..next
+            cursor: Cursor {
+                held: report::put_charge(held, cursor.held, row),
+                entries: at,
+                ..cursor
             },
         },
     }
@@ -183,29 +154,29 @@ fn preceding_invoice(
     table: &[u32],
     text: &[u8],
     links: &[u16],
-    mode: u32,
-    rules: u32,
+    lent: Lent,
     held: &mut [i64],
     entries: &mut [i64],
-    tally: Tally,
-    next: Next,
+    s: Tallied,
     c: usize,
 ) -> Tallied
-    requires { ⌜ tally .invoices ≤ 4095 ⌝ }
-    ensures { λ r. ⌜ ((currency : List ℕ) (extension : Bool) (p : Plain) (b : Billing) (m : MaybeTotals) (u : List ℤ) → Stepped precedingInvoice (lentWith mode rules currency extension) (linkDoc (now (table .entry)) (now (text .entry)) (now (links .entry))) (now (text .entry)) c (state p tally b m next) (state p (r .tally) b m (r .next)) (now (held .entry)) (now (held .exit)) (now (entries .entry)) (now (entries .exit)) u u) ⌝ }
+    requires { ⌜ s .tally .invoices ≤ 4095 ⌝ }
+    ensures { λ r. ⌜ ((currency : List ℕ) (p : Plain) (b : Billing) (m : MaybeTotals) (u : List ℤ) → Stepped precedingInvoice (lentOf lent currency) (linkDoc (now (table .entry)) (now (text .entry)) (now (links .entry))) (now (text .entry)) c (state p (s .tally) b m (s .cursor)) (state p (r .tally) b m (r .cursor)) (now (held .entry)) (now (held .exit)) (now (entries .entry)) (now (entries .exit)) u u) ⌝ }
 {
+    let tally = s.tally;
+    let cursor = s.cursor;
     let index = tally.invoices;
-    let said = groups::preceding(table, text, links, mode, rules, entries, next.at, index, c);
+    let said = groups::preceding(table, text, links, lent, entries, cursor.entries, index, c);
     let row = said.invoice;
     Tallied {
         tally: Tally {
             invoices: index + 1,
             ..tally
         },
-        next: Next {
-            held_at: report::put_preceding(held, next.held_at, row),
-            at: said.at,
-            ..next
+        cursor: Cursor {
+            held: report::put_preceding(held, cursor.held, row),
+            entries: said.at,
+            ..cursor
         },
     }
 }
@@ -215,71 +186,49 @@ pub(crate) fn row_child(
     table: &[u32],
     text: &[u8],
     links: &[u16],
-    mode: u32,
-    rules: u32,
+    lent: Lent,
     currency: &[u8],
-    extension: bool,
     held: &mut [i64],
     entries: &mut [i64],
-    tally: Tally,
-    next: Next,
+    s: Tallied,
     kind: RowKind,
     c: usize,
 ) -> Tallied
-    requires { ⌜ Counted tally 4095 ⌝ }
-    ensures { λ r. ⌜ ((p : Plain) (b : Billing) (m : MaybeTotals) (u : List ℤ) → Stepped (rowIs kind) (lentWith mode rules (now (currency .entry)) extension) (linkDoc (now (table .entry)) (now (text .entry)) (now (links .entry))) (now (text .entry)) c (state p tally b m next) (state p (r .tally) b m (r .next)) (now (held .entry)) (now (held .exit)) (now (entries .entry)) (now (entries .exit)) u u) ⌝ }
+    requires { ⌜ Counted (s .tally) 4095 ⌝ }
+    ensures { λ r. ⌜ ((p : Plain) (b : Billing) (m : MaybeTotals) (u : List ℤ) → Stepped (rowIs kind) (lentOf lent (now (currency .entry))) (linkDoc (now (table .entry)) (now (text .entry)) (now (links .entry))) (now (text .entry)) c (state p (s .tally) b m (s .cursor)) (state p (r .tally) b m (r .cursor)) (now (held .entry)) (now (held .exit)) (now (entries .entry)) (now (entries .exit)) u u) ⌝ }
 {
     match kind {
-        RowKind::TradeTax => vat_breakdown(
-            table,
-            text,
-            links,
-            mode,
-            rules,
-            currency,
-            held,
-            entries,
-            tally,
-            next,
-            c,
-        ),
+        RowKind::TradeTax => vat_breakdown(table, text, links, lent, currency, held, entries, s, c),
         RowKind::AllowanceCharge => allowance_charge(
             table,
             text,
             links,
-            mode,
-            rules,
+            lent,
             currency,
             held,
             entries,
-            tally,
-            next,
+            s,
             c,
         ),
         RowKind::LogisticsCharge => logistics_charge(
             table,
             text,
             links,
-            mode,
-            rules,
+            lent,
             currency,
-            extension,
             held,
             entries,
-            tally,
-            next,
+            s,
             c,
         ),
         RowKind::PrecedingInvoice => preceding_invoice(
             table,
             text,
             links,
-            mode,
-            rules,
+            lent,
             held,
             entries,
-            tally,
-            next,
+            s,
             c,
         ),
     }

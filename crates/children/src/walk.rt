@@ -4,9 +4,9 @@ ghost use Prim.Native.Nat.{_≤_};
 ghost use lib.IntN.{ℤ};
 ghost use lib.ListN.{length};
 ghost use Rattle.settlement.specs.Kinds.{other};
-ghost use Rattle.settlement.specs.Values.{Lent};
+ghost use Rattle.settlement.specs.Values as reading;
 ghost use Rattle.element.specs.LinkDoc.{linkDoc};
-ghost use Rattle.values.specs.Sites.{lentWith};
+ghost use Rattle.values.specs.Sites.{lentOf};
 ghost use Rattle.children.specs.Counts.{Counted};
 ghost use Rattle.steps.specs.States.{state};
 ghost use Rattle.steps.specs.Steps.{Stepped};
@@ -15,13 +15,16 @@ ghost use Rattle.steps.specs.declared.state.Plain.{Plain};
 ghost use Rattle.steps.specs.declared.state.MaybeTotals.{MaybeTotals};
 ghost use Rattle.steps.specs.declared.state.Tally.{Tally};
 ghost use Rattle.steps.specs.declared.state.Billing.{Billing};
+use crate::rows::Tallied;
 use crate::rows::row_child;
 use kinds::Kind;
 use kinds::kind_of;
-use means::Next;
 use names::Parent;
+use report::Cursor;
 use report::Unmapped;
+use steps::Billed;
 use steps::State;
+use values::Lent;
 
 // A child that is not mapped is noted.
 fn unmapped_child(
@@ -29,18 +32,18 @@ fn unmapped_child(
     text: &[u8],
     links: &[u16],
     unmapped: &mut [i64],
-    next: Next,
+    cursor: Cursor,
     c: usize,
-) -> Next
-    ensures { λ r. ⌜ ((L : Lent) (p : Plain) (t : Tally) (b : Billing) (m : MaybeTotals) (h e : List ℤ) → Stepped other L (linkDoc (now (table .entry)) (now (text .entry)) (now (links .entry))) (now (text .entry)) c (state p t b m next) (state p t b m r) h h e e (now (unmapped .entry)) (now (unmapped .exit))) ⌝ }
+) -> Cursor
+    ensures { λ r. ⌜ ((L : reading.Lent) (p : Plain) (t : Tally) (b : Billing) (m : MaybeTotals) (h e : List ℤ) → Stepped other L (linkDoc (now (table .entry)) (now (text .entry)) (now (links .entry))) (now (text .entry)) c (state p t b m cursor) (state p t b m r) h h e e (now (unmapped .entry)) (now (unmapped .exit))) ⌝ }
 {
     let element = Unmapped {
         parent: Parent::Settlement,
         name: element::name(table, c),
     };
-    Next {
-        count: unmapped::note_unmapped(text, unmapped, next.count, element),
-        ..next
+    Cursor {
+        unmapped: unmapped::note_unmapped(text, unmapped, cursor.unmapped, element),
+        ..cursor
     }
 }
 
@@ -49,10 +52,8 @@ fn read_children(
     table: &[u32],
     text: &[u8],
     links: &[u16],
-    mode: u32,
-    rules: u32,
+    lent: Lent,
     currency: &[u8],
-    extension: bool,
     held: &mut [i64],
     entries: &mut [i64],
     unmapped: &mut [i64],
@@ -60,13 +61,13 @@ fn read_children(
     n: usize,
 ) -> State
     requires { ⌜ (length (now links) ≤ 12288) × Counted (start .tally) 0 ⌝ }
-    ensures { λ r. ⌜ Walked (lentWith mode rules (now (currency .entry)) extension) (linkDoc (now (table .entry)) (now (text .entry)) (now (links .entry))) (now (text .entry)) (linkDoc (now (table .entry)) (now (text .entry)) (now (links .entry)) .kids n) start r (now (held .entry)) (now (held .exit)) (now (entries .entry)) (now (entries .exit)) (now (unmapped .entry)) (now (unmapped .exit)) ⌝ }
+    ensures { λ r. ⌜ Walked (lentOf lent (now (currency .entry))) (linkDoc (now (table .entry)) (now (text .entry)) (now (links .entry))) (now (text .entry)) (linkDoc (now (table .entry)) (now (text .entry)) (now (links .entry)) .kids n) start r (now (held .entry)) (now (held .exit)) (now (entries .entry)) (now (entries .exit)) (now (unmapped .entry)) (now (unmapped .exit)) ⌝ }
 {
     let mut plain = start.plain;
     let mut tally = start.tally;
     let mut billing = start.billing;
     let mut totals = start.totals;
-    let mut next = start.next;
+    let mut cursor = start.cursor;
     let mut c = links::first_of(links, n);
     let mut left = links.len() / 3;
     while 0 < left {
@@ -76,7 +77,7 @@ fn read_children(
                 tally,
                 billing,
                 totals,
-                next,
+                cursor,
             };
         }
         let kind = kind_of(table, text, links, c);
@@ -85,60 +86,46 @@ fn read_children(
                 plain = steps::plain_child(table, text, links, plain, k, c);
             }
             Kind::Row(k) => {
-                let said = row_child(
-                    table,
-                    text,
-                    links,
-                    mode,
-                    rules,
-                    currency,
-                    extension,
-                    held,
-                    entries,
-                    tally,
-                    next,
-                    k,
-                    c,
-                );
+                let s = Tallied { tally, cursor };
+                let said = row_child(table, text, links, lent, currency, held, entries, s, k, c);
                 tally = said.tally;
-                next = said.next;
+                cursor = said.cursor;
             }
             Kind::Billing(k) => {
+                let s = Billed { billing, cursor };
                 let said = steps::billing_child(
                     table,
                     text,
                     links,
-                    mode,
+                    lent,
                     held,
                     entries,
                     unmapped,
-                    billing,
-                    next,
+                    s,
                     k,
                     c,
                 );
                 billing = said.billing;
-                next = said.next;
+                cursor = said.cursor;
             }
             Kind::Summation => {
                 let said = steps::summation(
                     table,
                     text,
                     links,
-                    mode,
-                    rules,
+                    lent,
                     currency,
                     entries,
                     unmapped,
                     plain,
-                    next,
+                    cursor,
                     c,
                 );
                 totals = said.totals;
-                next = said.next;
+                cursor = said.cursor;
             }
             Kind::Other => {
-                next = unmapped_child(table, text, links, unmapped, next, c);
+                cursor = unmapped_child(table, text, links, unmapped, cursor, c);
             }
         }
         c = links::next_of(links, c);
@@ -149,25 +136,23 @@ fn read_children(
         tally,
         billing,
         totals,
-        next,
+        cursor,
     }
 }
 
-// All children of record 0, from nothing on. No child is read where there are more links than a table
-// of 4,096 records has, for then there might be more rows than can be counted.
-pub fn read_settlement(
+// The settlement that record 0 is: all its children, from nothing on. No child is read where there are more
+// links than a table of 4,096 records has, for then there might be more rows than can be counted.
+pub fn settlement(
     table: &[u32],
     text: &[u8],
     links: &[u16],
-    mode: u32,
-    rules: u32,
+    lent: Lent,
     currency: &[u8],
-    extension: bool,
     held: &mut [i64],
     entries: &mut [i64],
     unmapped: &mut [i64],
 ) -> State
-    ensures { λ r. ⌜ Read (lentWith mode rules (now (currency .entry)) extension) (linkDoc (now (table .entry)) (now (text .entry)) (now (links .entry))) (now (text .entry)) (countable (now (links .entry)) (linkDoc (now (table .entry)) (now (text .entry)) (now (links .entry)) .kids 0)) r (now (held .entry)) (now (held .exit)) (now (entries .entry)) (now (entries .exit)) (now (unmapped .entry)) (now (unmapped .exit)) ⌝ }
+    ensures { λ r. ⌜ Read (lentOf lent (now (currency .entry))) (linkDoc (now (table .entry)) (now (text .entry)) (now (links .entry))) (now (text .entry)) (countable (now (links .entry)) (linkDoc (now (table .entry)) (now (text .entry)) (now (links .entry)) .kids 0)) r (now (held .entry)) (now (held .exit)) (now (entries .entry)) (now (entries .exit)) (now (unmapped .entry)) (now (unmapped .exit)) ⌝ }
 {
     let start = steps::blank();
     if links.len() <= 12288 {
@@ -175,10 +160,8 @@ pub fn read_settlement(
             table,
             text,
             links,
-            mode,
-            rules,
+            lent,
             currency,
-            extension,
             held,
             entries,
             unmapped,

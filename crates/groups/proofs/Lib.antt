@@ -1,3 +1,4 @@
+pub mod Kids
 pub mod Made
 pub mod Steps
 pub mod Meaning

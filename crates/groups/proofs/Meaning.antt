@@ -28,6 +28,11 @@ module _ (L : Lent) (D : Doc ℕ Place) (s : VatState Place) (n : ℕ) where
   unfolding tradeTaxSays pointSays tradeTaxOf
   vat-breakdown-next = refl
 
+  -- nothing is unmapped
+  pub vat-breakdown-strays : [] ≡ tradeTaxOf L D s n .strays
+  unfolding tradeTaxOf
+  vat-breakdown-strays = refl
+
 -- a preceding invoice: what it says, its row, and one more is counted
 module _ (L : Lent) (D : Doc ℕ Place) (g n : ℕ) where
   pub preceding-is : record { next = suc g; says = precedingSays (L .mode) (L .rules) D g n .1; holds = preceding (precedingSays (L .mode) (L .rules) D g n .0) ∷ []; strays = [] } ≡ reading.precedingOf L D g n

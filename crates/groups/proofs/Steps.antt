@@ -6,6 +6,7 @@ use mathlib.Core.Option.{Option, some}
 use Prim.Native.Nat.{ℕ}
 use lib.IntN.{ℤ}
 use Rattle.text.specs.Utf8.{bytes}
+use Rattle.table.specs.Table.{found}
 use Rattle.codes.specs.declared.rules.Rule.the-variants as Rule
 use Rattle.names.specs.declared.path.Path.the-variants as Path
 use Rattle.names.specs.declared.term.Term.the-variants as Term
@@ -13,27 +14,28 @@ use Rattle.report.specs.Rows.{Place}
 use Rattle.settlement.specs.Document.{Doc}
 use Rattle.settlement.specs.Settlement as reading
 use Rattle.settlement.specs.Shapes.{VatState}
-use Rattle.settlement.specs.Tax.{pointDate, pointCode}
-use Rattle.settlement.specs.Values.{Lent, Site, grouped, kidText, requiredCode, percent, notVat, date}
+use Rattle.settlement.specs.Values.{Lent, Site, grouped, kidText, requiredCode, date}
+use Rattle.values.specs.Sites.{percentIn, codeIn, notVatIn}
 use Rattle.values.specs.Told.{Said, Told}
 use Rattle.values.proofs.Telling.{said-then}
 use Rattle.groups.proofs.Made.{pair-made, state-made, vat-made}
 use Rattle.groups.specs.declared.shapes.Category.{Category}
+use Rattle.groups.specs.declared.shapes.CategoryKids.{CategoryKids}
 use Rattle.groups.specs.Groups.{said, precedingSays}
-use Rattle.groups.specs.Categories.{categorySays}
-use Rattle.groups.specs.Taxes.{vatCategory, pointSays, basisAmount, calculatedAmount, tradeTaxSays}
+use Rattle.groups.specs.Categories.{textFound, categoryFound, categorySays}
+use Rattle.groups.specs.Taxes.{vatCategory, pointDateFound, pointCodeIn, pointFound, pointSays, basisAmount, calculatedAmount, tradeTaxSays}
 
 module _ {l l₁ l₂ : List ℤ} {at a b : ℕ} where
   -- a category: type code, category, rate
   pub category-told :
-      {l₃ : List ℤ} {c : ℕ} {u v w : Site} {k : Place} {q : Option (ℤ × ℕ)} (mode rules : ℕ) (D : Doc ℕ Place) (of : Category) (g n : ℕ) → u ≡ grouped (of .code) (of .category) g → v ≡ grouped (of .whole) (of .category) g →
-      w ≡ grouped (of .share) (of .rate) g → Said (notVat D u n) l at l₁ a → Told (requiredCode rules D (of .rule) v n (bytes "CategoryCode")) l₁ a k l₂ b → Told (percent mode D w n (bytes "RateApplicablePercent")) l₂ b q l₃ c →
-      Told (categorySays mode rules D of g n) l at (k, q) l₃ c
-  unfolding categorySays
-  category-told mode rules D of g n e f h x y z =
-      let k = rw f at y in
-      let r = rw h at z in
-      record { same = pair-made (k .same) (r .same); said = said-then (rw e at x) (said-then (k .said) (r .said)) }
+      {l₃ : List ℤ} {c : ℕ} {u v w : Site} {i j q : Option Place} {k : Place} {r : Option (ℤ × ℕ)} (mode rules : ℕ) (D : Doc ℕ Place) (x : List ℕ) (of : Category) (g : ℕ) (kids : CategoryKids) → u ≡ grouped (of .code) (of .category) g →
+      v ≡ grouped (of .whole) (of .category) g → w ≡ grouped (of .share) (of .rate) g → i ≡ textFound D 0 (found (kids .kind)) → j ≡ textFound D 0 (found (kids .code)) → q ≡ textFound D mode (found (kids .rate)) →
+      Said (notVatIn x u i) l at l₁ a → Told (codeIn rules (of .rule) v j) l₁ a k l₂ b → Told (percentIn x w q) l₂ b r l₃ c → Told (categoryFound mode rules D x of g kids) l at (k, r) l₃ c
+  unfolding categoryFound
+  category-told mode rules D x of g kids e f h i j q y z p =
+      let k = rw (f, j) at z in
+      let r = rw (h, q) at p in
+      record { same = pair-made (k .same) (r .same); said = said-then (rw (e, i) at y) (said-then (k .said) (r .said)) }
 
   -- a period: start and end
   pub period-told :
@@ -53,10 +55,11 @@ module _ {l l₁ l₂ : List ℤ} {at a b : ℕ} where
 
   -- point date and code
   pub point-told :
-      {d : Option ℕ} {t : VatState Place} (mode : ℕ) (D : Doc ℕ Place) (s : VatState Place) (n : ℕ) → Told (pointDate mode D s n) l at d l₁ a → Told (pointCode D s n) l₁ a t l₂ b →
-      Told (pointSays mode D s n) l at (record { count = s .count; point = d; code = t .code; first = t .first }) l₂ b
-  unfolding pointSays
-  point-told mode D s n p q =
+      {d : Option ℕ} {t : VatState Place} {o : Option Place} (mode : ℕ) (D : Doc ℕ Place) (x : List ℕ) (s : VatState Place) (date code : Option ℕ) → o ≡ textFound D 0 code → Told (pointDateFound mode D s date) l at d l₁ a →
+      Told (pointCodeIn x s o) l₁ a t l₂ b → Told (pointFound mode D x s date code) l at (record { count = s .count; point = d; code = t .code; first = t .first }) l₂ b
+  unfolding pointFound
+  point-told mode D x s date code e p w =
+      let q = rw e at w in
       record { same = state-made _ (p .same) (ap (λ (s : VatState Place). s .code) (q .same)) (ap (λ (s : VatState Place). s .first) (q .same)); said = said-then (p .said) (q .said) }
 
   -- a VAT breakdown: point date and code, taxable amount, tax amount, category and rate, exemption reason and its code

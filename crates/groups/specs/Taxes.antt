@@ -1,8 +1,10 @@
 -- VAT breakdowns in the code's terms.
+use mathlib.Core.Bool.{true, cond}
 use mathlib.Core.List.{List, [], _∷_, _++_}
 use mathlib.Core.Option.{Option, none, some}
 use Prim.Native.Nat.{ℕ}
 use lib.IntN.{ℤ}
+use Rattle.text.specs.Order.{equal}
 use Rattle.text.specs.Utf8.{bytes}
 use Rattle.codes.specs.VatPoint.{vatPointDateCodeOf}
 use Rattle.codes.specs.declared.rules.Rule.the-variants as Rule
@@ -20,16 +22,21 @@ use Rattle.groups.specs.declared.shapes.Category.{Category}
 use Rattle.groups.specs.declared.shapes.PointCode.{PointCode}
 use Rattle.groups.specs.declared.shapes.PointCode.the-variants.{Absent, Of}
 use Rattle.groups.specs.declared.shapes.VatState as Code
-use Rattle.groups.specs.Categories.{categorySays}
+use Rattle.values.specs.Sites.{dateOf}
+use Rattle.groups.specs.Categories.{textFound, categorySays}
 
 -- BT-8
 abbrev pub pointCodeOf : PointCode → Option ℕ
 pointCodeOf Absent = none
 pointCodeOf (Of k) = some k
 
--- VAT so far, with this many breakdowns made
-abbrev pub vatStateOf : ℕ → Code.VatState → VatState Place
-vatStateOf g s = record { count = g; point = dayOf (s .point); code = pointCodeOf (s .code); first = textOf (s .first) }
+-- VAT so far
+abbrev pub vatStateOf : Code.VatState → VatState Place
+vatStateOf s = record { count = s .breakdowns; point = dayOf (s .point); code = pointCodeOf (s .code); first = textOf (s .first) }
+
+-- the date of a child, until one is read
+unfoldable pub pointDateFound : ℕ → Doc ℕ Place → VatState Place → Option ℕ → Says Place (Option ℕ)
+pointDateFound mode D s o = maybe (dateOf mode D (record { point = true; time = Path.TaxPointDateTimeString; day = Path.TaxPointDateString }) o) (λ d. (some d, [])) (s .point)
 
 -- the first code: readable, else said
 unfoldable pub freshCodeOf : List ℕ → VatState Place → Place → Says Place (VatState Place)
@@ -38,6 +45,21 @@ freshCodeOf x s p =
       record { count = s .count; point = s .point; code = a .value; first = some p },
       maybe (entry Message.UnknownVatPointCode (site Path.TradeTaxDueDateTypeCode Term.Bt8) (some p) ∷ []) (λ c. []) (a .value),
     )
+
+-- a further code, said where it is not written as the first
+unfoldable pub againCodeOf : List ℕ → VatState Place → Place → Place → Says Place (VatState Place)
+againCodeOf x s p f = (s, cond (equal (shows x f) (shows x p)) [] (entry Message.SecondVatPointCode (site Path.SettlementTradeTaxDueDateTypeCode Term.Bt8) (some p) ∷ []))
+
+-- no code, the first, or a further one
+unfoldable pub pointCodeIn : List ℕ → VatState Place → Option Place → Says Place (VatState Place)
+pointCodeIn x s o = maybe (s, []) (λ p. maybe (freshCodeOf x s p) (againCodeOf x s p) (s .first)) o
+
+-- point date and code after a breakdown with these children, with what they say; `point-kids` joins it to the next
+unfoldable pub pointFound : ℕ → Doc ℕ Place → List ℕ → VatState Place → Option ℕ → Option ℕ → Says Place (VatState Place)
+pointFound mode D x s date code =
+    let d = pointDateFound mode D s date in
+    let c = pointCodeIn x s (textFound D 0 code) in
+    (record { count = s .count; point = d .0; code = c .0 .code; first = c .0 .first }, d .1 ++ c .1)
 
 -- point date and code after a breakdown, with what they say
 unfoldable pub pointSays : ℕ → Doc ℕ Place → VatState Place → ℕ → Says Place (VatState Place)

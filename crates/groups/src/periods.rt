@@ -10,6 +10,7 @@ use crate::shapes::PaymentTerms;
 use crate::shapes::Period;
 use names::Path;
 use report::Text;
+use values::DatePaths;
 
 // A period, and where the next entry goes.
 pub struct PeriodSaid {
@@ -35,15 +36,20 @@ pub fn period(
 ) -> PeriodSaid
     ensures { λ r. ⌜ Told (said (reading.periodOf mode (linkDoc (now (table .entry)) (now (text .entry)) (now (links .entry))) n)) (now (entries .entry)) at (some (periodOf (r .period))) (now (entries .exit)) (r .at) ⌝ }
 {
-    let p = Path::PeriodStartDateTimeString;
-    let q = Path::PeriodStartDateString;
-    let want = b"StartDateTime";
-    let start = values::date(table, text, links, mode, entries, at, false, p, q, n, want);
-    let at = start.at;
-    let p = Path::PeriodEndDateTimeString;
-    let q = Path::PeriodEndDateString;
-    let want = b"EndDateTime";
-    let end = values::date(table, text, links, mode, entries, at, false, p, q, n, want);
+    let e = element::kid(table, text, links, n, b"StartDateTime");
+    let paths = DatePaths {
+        point: false,
+        time: Path::PeriodStartDateTimeString,
+        day: Path::PeriodStartDateString,
+    };
+    let start = values::date(table, text, links, mode, entries, at, paths, e);
+    let e = element::kid(table, text, links, n, b"EndDateTime");
+    let paths = DatePaths {
+        point: false,
+        time: Path::PeriodEndDateTimeString,
+        day: Path::PeriodEndDateString,
+    };
+    let end = values::date(table, text, links, mode, entries, start.at, paths, e);
     let first = start.day;
     let last = end.day;
     PeriodSaid {
@@ -78,10 +84,13 @@ pub fn payment_terms(
 ) -> PaymentTermsSaid
     ensures { λ r. ⌜ Told (said (reading.paymentTermsOf mode (linkDoc (now (table .entry)) (now (text .entry)) (now (links .entry))) n)) (now (entries .entry)) at (paymentTermsOf (r .terms)) (now (entries .exit)) (r .at) ⌝ }
 {
-    let p = Path::PaymentTermsDueDateTimeString;
-    let q = Path::PaymentTermsDueDateString;
-    let want = b"DueDateDateTime";
-    let due = values::date(table, text, links, mode, entries, at, false, p, q, n, want);
+    let e = element::kid(table, text, links, n, b"DueDateDateTime");
+    let paths = DatePaths {
+        point: false,
+        time: Path::PaymentTermsDueDateTimeString,
+        day: Path::PaymentTermsDueDateString,
+    };
+    let due = values::date(table, text, links, mode, entries, at, paths, e);
     let day = due.day;
     PaymentTermsSaid {
         terms: PaymentTerms {

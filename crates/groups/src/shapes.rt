@@ -44,8 +44,9 @@ pub enum PointCode {
     Of(u32),
 }
 
-// BT-7, BT-8, and the first code as it was written.
+// How many VAT breakdowns there are, BT-7, BT-8, and the first code as it was written.
 pub struct VatState {
+    pub breakdowns: u32,
     pub point: Day,
     pub code: PointCode,
     pub first: Text,
@@ -60,4 +61,11 @@ pub struct Category {
     pub category: Term,
     pub rate: Term,
     pub rule: Rule,
+}
+
+// The children of a VAT category's element: type code, category code and rate, 0 where there is none.
+pub struct CategoryKids {
+    pub kind: usize,
+    pub code: usize,
+    pub rate: usize,
 }

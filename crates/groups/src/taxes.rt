@@ -1,18 +1,24 @@
 // BG-23 VAT breakdown, with the VAT point date and code of the invoice.
 ghost use mathlib.Core.Path.{_≡_};
-ghost use Rattle.report.specs.Values.{placeOf, dayOf, vatOf};
-ghost use Rattle.settlement.specs.Tax as reading;
+ghost use Rattle.table.specs.Table.{found};
+ghost use Rattle.codes.specs.declared.rules.Rule.the-variants as Rule;
+ghost use Rattle.names.specs.declared.path.Path.the-variants as Path;
+ghost use Rattle.names.specs.declared.term.Term.the-variants as Term;
+ghost use Rattle.report.specs.Values.{placeOf, textOf, dayOf, vatOf};
+ghost use Rattle.settlement.specs.Values.{grouped};
 ghost use Rattle.element.specs.LinkDoc.{linkDoc};
 ghost use Rattle.values.specs.Sites.{lentOf};
 ghost use Rattle.values.specs.Told.{Told};
-ghost use Rattle.groups.specs.Taxes.{vatStateOf, vatCategory, freshCodeOf, pointSays, basisAmount, calculatedAmount, tradeTaxSays};
-use crate::categories::trade_tax;
+ghost use Rattle.amounts.specs.Amounts.{Wanted};
+ghost use Rattle.groups.specs.Taxes.{vatStateOf, vatCategory, freshCodeOf, againCodeOf, pointDateFound, pointCodeIn, pointFound, tradeTaxSays};
+use crate::categories::category_of;
 use crate::shapes::Category;
+use crate::shapes::CategoryKids;
 use crate::shapes::PointCode;
 use crate::shapes::VatState;
+use amounts::Required;
 use codes::Rule;
 use codes::VatPointDateCode;
-use money::RequiredAmount;
 use names::Message;
 use names::Path;
 use names::Term;
@@ -20,7 +26,9 @@ use report::Day;
 use report::Place;
 use report::Text;
 use report::Vat;
+use values::DatePaths;
 use values::DateSaid;
+use values::Lent;
 
 // What a VAT breakdown makes of the point date and code, and where the next entry goes.
 pub struct VatSaid {
@@ -35,7 +43,7 @@ pub struct VatBreakdownSaid {
     pub at: usize,
 }
 
-// BT-7: the point date so far, or that of element n.
+// BT-7: the point date so far, or that of a child e.
 fn point_date(
     table: &[u32],
     text: &[u8],
@@ -43,11 +51,10 @@ fn point_date(
     mode: u32,
     entries: &mut [i64],
     at: usize,
-    index: u32,
     s: VatState,
-    n: usize,
+    e: usize,
 ) -> DateSaid
-    ensures { λ r. ⌜ Told (reading.pointDate mode (linkDoc (now (table .entry)) (now (text .entry)) (now (links .entry))) (vatStateOf index s) n) (now (entries .entry)) at (dayOf (r .day)) (now (entries .exit)) (r .at) ⌝ }
+    ensures { λ r. ⌜ Told (pointDateFound mode (linkDoc (now (table .entry)) (now (text .entry)) (now (links .entry))) (vatStateOf s) (found e)) (now (entries .entry)) at (dayOf (r .day)) (now (entries .exit)) (r .at) ⌝ }
 {
     let point = s.point;
     match point {
@@ -56,33 +63,27 @@ fn point_date(
             at,
         },
         Day::Absent => {
-            let p = Path::TaxPointDateTimeString;
-            let q = Path::TaxPointDateString;
-            let want = b"TaxPointDate";
-            values::date(table, text, links, mode, entries, at, true, p, q, n, want)
+            let paths = DatePaths {
+                point: true,
+                time: Path::TaxPointDateTimeString,
+                day: Path::TaxPointDateString,
+            };
+            values::date(table, text, links, mode, entries, at, paths, e)
         }
     }
 }
 
 // BT-8: the first code, kept as it is written; one that is not known is said.
-fn fresh_code(
-    text: &[u8],
-    entries: &mut [i64],
-    at: usize,
-    index: u32,
-    s: VatState,
-    p: Place,
-) -> VatSaid
-    ensures { λ r. ⌜ Told (freshCodeOf (now (text .entry)) (vatStateOf index s) (placeOf p)) (now (entries .entry)) at (vatStateOf index (r .state)) (now (entries .exit)) (r .at) ⌝ }
+fn fresh_code(text: &[u8], entries: &mut [i64], at: usize, s: VatState, p: Place) -> VatSaid
+    ensures { λ r. ⌜ Told (freshCodeOf (now (text .entry)) (vatStateOf s) (placeOf p)) (now (entries .entry)) at (vatStateOf (r .state)) (now (entries .exit)) (r .at) ⌝ }
 {
-    let point = s.point;
     let code = codes::vat_point_date_code_from_cii(element::shown(text, p));
     match code {
         VatPointDateCode::Code(k) => VatSaid {
             state: VatState {
-                point,
                 code: PointCode::Of(k),
                 first: Text::At(p),
+                ..s
             },
             at,
         },
@@ -91,9 +92,9 @@ fn fresh_code(
             let message = Message::UnknownVatPointCode;
             VatSaid {
                 state: VatState {
-                    point,
                     code: PointCode::Absent,
                     first: Text::At(p),
+                    ..s
                 },
                 at: values::say(entries, at, message, site, Text::At(p)),
             }
@@ -103,17 +104,14 @@ fn fresh_code(
 
 // A further code, which is said where it is not written as the first.
 fn again_code(
-    table: &[u32],
     text: &[u8],
-    links: &[u16],
     entries: &mut [i64],
     at: usize,
-    index: u32,
     s: VatState,
     p: Place,
     first: Place,
 ) -> VatSaid
-    ensures { λ r. ⌜ Told (reading.againCode (linkDoc (now (table .entry)) (now (text .entry)) (now (links .entry))) (vatStateOf index s) (placeOf p) (placeOf first)) (now (entries .entry)) at (vatStateOf index (r .state)) (now (entries .exit)) (r .at) ⌝ }
+    ensures { λ r. ⌜ Told (againCodeOf (now (text .entry)) (vatStateOf s) (placeOf p) (placeOf first)) (now (entries .entry)) at (vatStateOf (r .state)) (now (entries .exit)) (r .at) ⌝ }
 {
     if text::same(element::shown(text, first), element::shown(text, p)) {
         return VatSaid { state: s, at };
@@ -126,31 +124,21 @@ fn again_code(
     }
 }
 
-// BT-8 after element n: no code in it, the first, or a further one.
-fn point_code(
-    table: &[u32],
-    text: &[u8],
-    links: &[u16],
-    entries: &mut [i64],
-    at: usize,
-    index: u32,
-    s: VatState,
-    n: usize,
-) -> VatSaid
-    ensures { λ r. ⌜ Told (reading.pointCode (linkDoc (now (table .entry)) (now (text .entry)) (now (links .entry))) (vatStateOf index s) n) (now (entries .entry)) at (vatStateOf index (r .state)) (now (entries .exit)) (r .at) ⌝ }
+// BT-8 after a breakdown: no code in it, the first, or a further one.
+fn point_code(text: &[u8], entries: &mut [i64], at: usize, s: VatState, code: Text) -> VatSaid
+    ensures { λ r. ⌜ Told (pointCodeIn (now (text .entry)) (vatStateOf s) (textOf code)) (now (entries .entry)) at (vatStateOf (r .state)) (now (entries .exit)) (r .at) ⌝ }
 {
     let first = s.first;
-    let code = element::kid_text(table, text, links, 0, n, b"DueDateTypeCode");
     match code {
         Text::Absent => VatSaid { state: s, at },
         Text::At(p) => match first {
-            Text::Absent => fresh_code(text, entries, at, index, s, p),
-            Text::At(f) => again_code(table, text, links, entries, at, index, s, p, f),
+            Text::Absent => fresh_code(text, entries, at, s, p),
+            Text::At(f) => again_code(text, entries, at, s, p, f),
         },
     }
 }
 
-// BT-7 and BT-8 after element n.
+// BT-7 and BT-8 after a breakdown, by the children of their names.
 fn point(
     table: &[u32],
     text: &[u8],
@@ -158,92 +146,50 @@ fn point(
     mode: u32,
     entries: &mut [i64],
     at: usize,
-    index: u32,
     s: VatState,
-    n: usize,
+    date: usize,
+    code: usize,
 ) -> VatSaid
-    ensures { λ r. ⌜ Told (pointSays mode (linkDoc (now (table .entry)) (now (text .entry)) (now (links .entry))) (vatStateOf index s) n) (now (entries .entry)) at (vatStateOf index (r .state)) (now (entries .exit)) (r .at) ⌝ }
+    ensures { λ r. ⌜ Told (pointFound mode (linkDoc (now (table .entry)) (now (text .entry)) (now (links .entry))) (now (text .entry)) (vatStateOf s) (found date) (found code)) (now (entries .entry)) at (vatStateOf (r .state)) (now (entries .exit)) (r .at) ⌝ }
 {
-    let date = point_date(table, text, links, mode, entries, at, index, s, n);
-    let code = point_code(table, text, links, entries, date.at, index, s, n);
-    let state = code.state;
+    let date = point_date(table, text, links, mode, entries, at, s, date);
+    let code = element::child_text(table, text, links, 0, code);
+    let said = point_code(text, entries, date.at, s, code);
     let day = date.day;
-    let known = state.code;
-    let first = state.first;
+    let after = said.state;
+    let code = after.code;
+    let first = after.first;
     VatSaid {
         state: VatState {
             point: day,
-            code: known,
+            code,
             first,
+            ..s
         },
-        at: code.at,
+        at: said.at,
     }
 }
 
-// BT-116 of element n, in the VAT breakdown of an index.
-fn basis_amount(
-    table: &[u32],
-    text: &[u8],
-    links: &[u16],
-    mode: u32,
-    rules: u32,
-    currency: &[u8],
-    entries: &mut [i64],
-    at: usize,
-    index: u32,
-    n: usize,
-) -> RequiredAmount
-    ensures { λ r. ⌜ Told (basisAmount (lentOf mode rules (now (currency .entry))) (linkDoc (now (table .entry)) (now (text .entry)) (now (links .entry))) index n) (now (entries .entry)) at (r .amount .0) (now (entries .exit)) (r .at) ⌝ }
+// Where BT-116 stands in the VAT breakdown of an index.
+fn taxable_amount(index: u32) -> Required
+    ensures { λ r. ⌜ Wanted r Rule.Br45 Path.SettlementTradeTax (grouped Path.TradeTaxBasisAmount Term.Bt116 index) ⌝ }
 {
-    let site = values::grouped(Path::TradeTaxBasisAmount, Term::Bt116, index);
-    money::required_amount(
-        table,
-        text,
-        links,
-        mode,
-        rules,
-        currency,
-        entries,
-        at,
-        Rule::Br45,
-        Path::SettlementTradeTax,
-        site,
-        n,
-        b"BasisAmount",
-    )
+    Required {
+        rule: Rule::Br45,
+        group: Path::SettlementTradeTax,
+        site: values::grouped(Path::TradeTaxBasisAmount, Term::Bt116, index),
+    }
 }
 
-// BT-117 of element n, in the VAT breakdown of an index.
-fn calculated_amount(
-    table: &[u32],
-    text: &[u8],
-    links: &[u16],
-    mode: u32,
-    rules: u32,
-    currency: &[u8],
-    entries: &mut [i64],
-    at: usize,
-    index: u32,
-    n: usize,
-) -> RequiredAmount
-    ensures { λ r. ⌜ Told (calculatedAmount (lentOf mode rules (now (currency .entry))) (linkDoc (now (table .entry)) (now (text .entry)) (now (links .entry))) index n) (now (entries .entry)) at (r .amount .0) (now (entries .exit)) (r .at) ⌝ }
+// Where BT-117 does.
+fn tax_amount(index: u32) -> Required
+    ensures { λ r. ⌜ Wanted r Rule.Br46 Path.SettlementTradeTax (grouped Path.TradeTaxCalculatedAmount Term.Bt117 index) ⌝ }
 {
-    let site = values::grouped(Path::TradeTaxCalculatedAmount, Term::Bt117, index);
-    money::required_amount(
-        table,
-        text,
-        links,
-        mode,
-        rules,
-        currency,
-        entries,
-        at,
-        Rule::Br46,
-        Path::SettlementTradeTax,
-        site,
-        n,
-        b"CalculatedAmount",
-    )
+    Required {
+        rule: Rule::Br46,
+        group: Path::SettlementTradeTax,
+        site: values::grouped(Path::TradeTaxCalculatedAmount, Term::Bt117, index),
+    }
 }
 
 // Where the category and rate of a VAT breakdown are said.
@@ -260,31 +206,72 @@ fn vat_category() -> Category
     }
 }
 
-// The VAT breakdown that element n is, the one of this index.
+// The VAT breakdown that element n is, after those counted so far.
 pub fn vat_breakdown(
     table: &[u32],
     text: &[u8],
     links: &[u16],
-    mode: u32,
-    rules: u32,
+    lent: Lent,
     currency: &[u8],
     entries: &mut [i64],
     at: usize,
-    index: u32,
     s: VatState,
     n: usize,
 ) -> VatBreakdownSaid
-    ensures { λ r. ⌜ Told (tradeTaxSays (lentOf mode rules (now (currency .entry))) (linkDoc (now (table .entry)) (now (text .entry)) (now (links .entry))) (vatStateOf index s) n) (now (entries .entry)) at ((vatStateOf index (r .state), vatOf (r .vat))) (now (entries .exit)) (r .at) ⌝ }
+    ensures { λ r. ⌜ Told (tradeTaxSays (lentOf lent (now (currency .entry))) (linkDoc (now (table .entry)) (now (text .entry)) (now (links .entry))) (vatStateOf s) n) (now (entries .entry)) at ((vatStateOf (r .state), vatOf (r .vat))) (now (entries .exit)) (r .at) ⌝ }
 {
-    let g = index;
-    let moment = point(table, text, links, mode, entries, at, index, s, n);
+    let mut kids: [usize; 9] = [0; 9];
+    let names = b"\x0cTaxPointDate\
+        \x0fDueDateTypeCode\
+        \x0bBasisAmount\x10CalculatedAmount\
+        \x08TypeCode\
+        \x0cCategoryCode\
+        \x15RateApplicablePercent\
+        \x0fExemptionReason\
+        \x13ExemptionReasonCode";
+    links::first_children(table, text, links, n, names, &mut kids);
+    let date = kids[0];
+    let code = kids[1];
+    let basis = kids[2];
+    let calculated = kids[3];
+    let found = CategoryKids {
+        kind: kids[4],
+        code: kids[5],
+        rate: kids[6],
+    };
+    let reason = kids[7];
+    let reason_code = kids[8];
+    let index = s.breakdowns;
+    let moment = point(table, text, links, lent.mode, entries, at, s, date, code);
     let at = moment.at;
-    let taxable = basis_amount(table, text, links, mode, rules, currency, entries, at, g, n);
+    let q = taxable_amount(index);
+    let taxable = amounts::required_amount(
+        table,
+        text,
+        links,
+        lent,
+        currency,
+        entries,
+        at,
+        q,
+        basis,
+    );
     let at = taxable.at;
-    let tax = calculated_amount(table, text, links, mode, rules, currency, entries, at, g, n);
+    let q = tax_amount(index);
+    let tax = amounts::required_amount(
+        table,
+        text,
+        links,
+        lent,
+        currency,
+        entries,
+        at,
+        q,
+        calculated,
+    );
     let at = tax.at;
     let of = vat_category();
-    let category = trade_tax(table, text, links, mode, rules, entries, at, of, index, n);
+    let category = category_of(table, text, links, lent, entries, at, of, index, found);
     let state = moment.state;
     let basis = taxable.amount;
     let due = tax.amount;
@@ -297,8 +284,8 @@ pub fn vat_breakdown(
             tax: due,
             category: kind,
             rate,
-            reason: element::kid_text(table, text, links, 0, n, b"ExemptionReason"),
-            code: element::kid_text(table, text, links, 0, n, b"ExemptionReasonCode"),
+            reason: element::child_text(table, text, links, 0, reason),
+            code: element::child_text(table, text, links, 0, reason_code),
         },
         at: category.at,
     }

@@ -12,7 +12,7 @@ use Rattle.report.specs.Encoding.{heldRow, rowsOf}
 use Rattle.report.specs.Placed.{Placed}
 use Rattle.settlement.specs.Document.{Doc}
 use Rattle.settlement.specs.Shapes.{Payment}
-use Rattle.settlement.specs.Payments.{Paying, paying, payingStart, paid, paymentMeansOf}
+use Rattle.settlement.specs.Payments.{Paying, paying, paid, paymentMeansOf}
 use Rattle.element.specs.LinkDoc.{linkDoc}
 use Rattle.unmapped.specs.Acted.{Acted}
 use Rattle.payment.specs.Walks.{paymentOf, waitingRows, payingOf}
@@ -28,7 +28,7 @@ pub record Reached (t x l : List ℕ) (n : ℕ) (w₀ : Code.Walk) (h₀ e₀ u�
 
 module _ (t x l : List ℕ) (n : ℕ) (w₀ : Code.Walk) (h₀ e₀ u₀ : List ℤ) where
   pub reached-start : (c : ℕ) → c ≡ link l n 0 → Reached t x l n w₀ h₀ e₀ u₀ (length l / 3) c w₀ h₀ e₀ u₀
-  reached-start c e = record { so = payingOf w₀; rest = fold-start (paying (linkDoc t x l)) l 0 n c (payingOf w₀) e; walked = walked-still refl refl refl refl x h₀ e₀ u₀ }
+  reached-start c e = record { so = payingOf w₀; rest = fold-start (paying (linkDoc t x l)) l 0 n c (payingOf w₀) e; walked = walked-still refl refl x h₀ e₀ u₀ }
 
   module _ {left c : ℕ} {w : Code.Walk} {h e u : List ℤ} (k : Reached t x l n w₀ h₀ e₀ u₀ left c w h e u) where
     pub reached-turn :
@@ -54,13 +54,9 @@ module _ (t x l : List ℕ) (n : ℕ) (w₀ : Code.Walk) (h₀ e₀ u₀ : List 
 
 -- the account that still waits is put
 pub acted :
-    (D : Doc ℕ Place) (p : Payment Place) (n : ℕ) {w₀ w : Code.Walk} {x : List ℕ} {h₀ h h′ e₀ e u₀ u : List ℤ} {a b k r : ℕ} →
-    (payingOf w₀ ≡ payingStart p) × (w₀ .«held_at» ≡ a) × (w₀ .at ≡ b) × (w₀ .count ≡ k) →
-    Walked (foldl (paying D) (payingOf w₀) (D .kids n)) w₀ w x h₀ h e₀ e u₀ u →
-    Placed h (w .«held_at») (rowsOf heldRow (map transfer (waitingRows (w .waiting)))) h′ r →
-    Acted (paymentMeansOf D p n) x (paymentOf (w .payment)) h₀ a h′ r e₀ b e (w .at) u₀ k u (w .count)
-unfolding paymentMeansOf paid
-acted D p n {w₀} {w} {x} {h₀} {h} {h′} {e₀} {e} {u₀} {u} {a} {b} {k} {r} s m q = rw (← s .1, ← s .2, ← s .3) (go (rw (s .0) at m))
-  where
-    go : Walked (foldl (paying D) (payingStart p) (D .kids n)) w₀ w x h₀ h e₀ e u₀ u → Acted (paymentMeansOf D p n) x (paymentOf (w .payment)) h₀ (w₀ .«held_at») h′ r e₀ (w₀ .at) e (w .at) u₀ (w₀ .count) u (w .count)
-    go m = record { same = m .payment; held = rw (m .whole) (held-then (m .rows) (waitingRows (w .waiting)) (m .held) q); said = m .said; noted = m .noted }
+    (D : Doc ℕ Place) (p : Payment Place) (n : ℕ) {w₀ w : Code.Walk} {x : List ℕ} {h₀ h h′ e₀ e u₀ u : List ℤ} {r : ℕ} →
+    Walked (paid D p n) w₀ w x h₀ h e₀ e u₀ u →
+    Placed h (w .cursor .held) (rowsOf heldRow (map transfer (waitingRows (w .waiting)))) h′ r →
+    Acted (paymentMeansOf D p n) x (paymentOf (w .payment)) (w₀ .cursor) (record { held = r; entries = w .cursor .entries; unmapped = w .cursor .unmapped }) h₀ h′ e₀ e u₀ u
+unfolding paymentMeansOf
+acted D p n {w₀} {w} m q = record { same = m .payment; held = rw (m .whole) (held-then (m .rows) (waitingRows (w .waiting)) (m .held) q); said = m .said; noted = m .noted }

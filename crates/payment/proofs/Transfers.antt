@@ -5,7 +5,7 @@ use mathlib.Core.List.{[], _∷_}
 use mathlib.Core.Option.{Option}
 use Prim.Native.Nat.{ℕ}
 use Rattle.text.specs.Utf8.{bytes}
-use Rattle.report.specs.Rows.{Place, Transfer}
+use Rattle.report.specs.Rows.{Place}
 use Rattle.report.specs.Values.{textOf}
 use Rattle.report.specs.declared.value.Text.{Text}
 use Rattle.report.specs.declared.held.Transfer as CodeTransfer
@@ -47,9 +47,8 @@ module _ (D : Doc ℕ Place) (c : ℕ) (s : Paying Place) where
 
     -- one of the account that waits
     pub provider-given :
-        {t : CodeTransfer.Transfer} {u : Transfer Place} →
+        {t : CodeTransfer.Transfer} →
         k ≡ Account t →
-        u ≡ record { account = textOf (t .account); name = textOf (t .name); provider = o } →
-        record { payment = s .payment; last = true; rows = u ∷ []; says = s .says; strays = s .strays } ≡ part D institution s c
+        record { payment = s .payment; last = true; rows = record { account = textOf (t .account); name = textOf (t .name); provider = o } ∷ []; says = s .says; strays = s .strays } ≡ part D institution s c
     unfolding part providerOf provided
-    provider-given e q = rw (l, r, e, q, p)
+    provider-given e = rw (l, r, e, p)

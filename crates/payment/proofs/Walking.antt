@@ -15,7 +15,7 @@ use Rattle.settlement.specs.Shapes.{Means}
 use Rattle.settlement.specs.Payments.{Paying, paying, notHeld, withMeans, firstMeans}
 use Rattle.values.specs.Told.{Said}
 use Rattle.values.proofs.Telling.{said-none, said-then}
-use Rattle.unmapped.specs.Noting.{noting, Noted}
+use Rattle.unmapped.specs.Noting.{noting, notings, Noted}
 use Rattle.unmapped.proofs.Notings.{notings-none, notings-one, notings-then}
 use Rattle.payment.specs.Walks.{meansOf, paymentOf, waits, waitingRows, payingOf}
 use Rattle.payment.specs.Walked.{Walked}
@@ -26,75 +26,61 @@ use Rattle.payment.specs.declared.paying.Means.the-variants.{Unset, Card
 use Rattle.payment.specs.declared.paying.Walk as Code
 use Rattle.report.specs.declared.value.Text.{Text}
 
--- a walk, and what was put and said on the way to it
-abbrev pub spoken : List (Transfer Place) → List (Entry Place) → Code.Walk → Paying Place
-spoken ts es r = record { payment = paymentOf (r .payment); last = waits (r .waiting); rows = ts ++ waitingRows (r .waiting); says = es; strays = [] }
+-- a walk, and what was put, said and noted on the way to it
+abbrev pub after : List (Transfer Place) → List (Entry Place) → List (Unmapped Place) → Code.Walk → Paying Place
+after ts es us r = record { payment = paymentOf (r .payment); last = waits (r .waiting); rows = ts ++ waitingRows (r .waiting); says = es; strays = us }
 
--- rows were put, and entries said
-walked-put :
-    (ts : List (Transfer Place)) {es : List (Entry Place)} {s : Paying Place} {w r : Code.Walk} {h h′ e e′ : List ℤ} →
-    r .count ≡ w .count →
-    spoken ts es r ≡ s →
-    Placed h (w .«held_at») (rowsOf heldRow (map transfer ts)) h′ (r .«held_at») →
-    Said es e (w .at) e′ (r .at) →
-    (x : List ℕ) (u : List ℤ) →
-    Walked s w r x h h′ e e′ u u
-walked-put ts {es} {s} {w} {r} q k b a x u =
-    rw (← k) (record { payment = refl; last = refl; rows = ts; whole = refl; held = b; said = a; noted = rw q (notings-none x u (w .count)) })
+walked-after :
+    (ts : List (Transfer Place)) {es : List (Entry Place)} {us : List (Unmapped Place)} {s : Paying Place} {w r : Code.Walk} {x : List ℕ} {h h′ e e′ u u′ : List ℤ} →
+    after ts es us r ≡ s →
+    Placed h (w .cursor .held) (rowsOf heldRow (map transfer ts)) h′ (r .cursor .held) →
+    Said es e (w .cursor .entries) e′ (r .cursor .entries) →
+    Noted (notings x u (w .cursor .unmapped) us) u′ (r .cursor .unmapped) →
+    Walked s w r x h h′ e e′ u u′
+walked-after ts k b a n = rw (← k) (record { payment = refl; last = refl; rows = ts; whole = refl; held = b; said = a; noted = n })
 
--- the account that waited was put
+-- the account that waited was put, and entries said
 pub walked-on :
     {es : List (Entry Place)} {s : Paying Place} {w r : Code.Walk} {h h′ e e′ : List ℤ} →
-    r .count ≡ w .count →
-    Placed h (w .«held_at») (rowsOf heldRow (map transfer (waitingRows (w .waiting)))) h′ (r .«held_at») →
-    Said es e (w .at) e′ (r .at) →
-    spoken (waitingRows (w .waiting)) es r ≡ s →
+    r .cursor .unmapped ≡ w .cursor .unmapped →
+    Placed h (w .cursor .held) (rowsOf heldRow (map transfer (waitingRows (w .waiting)))) h′ (r .cursor .held) →
+    Said es e (w .cursor .entries) e′ (r .cursor .entries) →
+    after (waitingRows (w .waiting)) es [] r ≡ s →
     (x : List ℕ) (u : List ℤ) →
     Walked s w r x h h′ e e′ u u
-walked-on {es} {s} {w} q b a k x u = walked-put (waitingRows (w .waiting)) q k b a x u
+walked-on {es} {s} {w} q b a k x u = walked-after (waitingRows (w .waiting)) k b a (rw q (notings-none x u (w .cursor .unmapped)))
 
 -- entries were said
 pub walked-said :
     {es : List (Entry Place)} {s : Paying Place} {w r : Code.Walk} {e e′ : List ℤ} →
-    r .«held_at» ≡ w .«held_at» →
-    r .count ≡ w .count →
-    spoken [] es r ≡ s →
-    Said es e (w .at) e′ (r .at) →
+    r .cursor .held ≡ w .cursor .held →
+    r .cursor .unmapped ≡ w .cursor .unmapped →
+    after [] es [] r ≡ s →
+    Said es e (w .cursor .entries) e′ (r .cursor .entries) →
     (x : List ℕ) (h u : List ℤ) →
     Walked s w r x h h e e′ u u
-walked-said {es} {s} {w} {r} p q k a x h u = walked-put [] q k (rw p (rows-none heldRow h (w .«held_at»))) a x u
+walked-said {es} {s} {w} p q k a x h u = walked-after [] k (rw p (rows-none heldRow h (w .cursor .held))) a (rw q (notings-none x u (w .cursor .unmapped)))
 
 -- nothing was done
 pub walked-still :
     {s : Paying Place} {w r : Code.Walk} →
-    r .«held_at» ≡ w .«held_at» →
-    r .at ≡ w .at →
-    r .count ≡ w .count →
+    r .cursor ≡ w .cursor →
     payingOf r ≡ s →
     (x : List ℕ) (h e u : List ℤ) →
     Walked s w r x h h e e u u
-walked-still {s} {w} {r} p q k a x h e u = walked-said p k a (rw q (said-none e (w .at))) x h u
+walked-still {s} {w} q a x h e u = walked-said (rw q) (rw q) a (rw q (said-none e (w .cursor .entries))) x h u
 
 -- an unmapped element was noted
 pub walked-noted :
     {v : Unmapped Place} {s : Paying Place} {w r : Code.Walk} {x : List ℕ} {u u′ : List ℤ} →
-    r .«held_at» ≡ w .«held_at» →
-    r .at ≡ w .at →
-    record { payment = paymentOf (r .payment); last = waits (r .waiting); rows = waitingRows (r .waiting); says = []; strays = v ∷ [] } ≡ s →
-    Noted (noting x u (w .count) v) u′ (r .count) →
+    r .cursor .held ≡ w .cursor .held →
+    r .cursor .entries ≡ w .cursor .entries →
+    after [] [] (v ∷ []) r ≡ s →
+    Noted (noting x u (w .cursor .unmapped) v) u′ (r .cursor .unmapped) →
     (h e : List ℤ) →
     Walked s w r x h h e e u u′
 walked-noted {v} {s} {w} {r} {x} {u} p q k a h e =
-    rw (← k)
-    (record {
-      payment = refl;
-      last = refl;
-      rows = [];
-      whole = refl;
-      held = rw p (rows-none heldRow h (w .«held_at»));
-      said = rw q (said-none e (w .at));
-      noted = notings-one x u (w .count) v a;
-    })
+    walked-after [] k (rw p (rows-none heldRow h (w .cursor .held))) (rw q (said-none e (w .cursor .entries))) (notings-one x u (w .cursor .unmapped) v a)
 
 -- by another's definition
 pub walked-as : {s t : Paying Place} {w r : Code.Walk} {x : List ℕ} {h h′ e e′ u u′ : List ℤ} → Walked s w r x h h′ e e′ u u′ → s ≡ t → Walked t w r x h h′ e e′ u u′
@@ -146,5 +132,5 @@ walked-then D c {s} {w₀} {w} {r} {x} {h₀} {h} {h′} {e₀} {e} {e′} {u₀
           whole = rw (m .whole, append-assoc (k .rows));
           held = held-then (k .rows) (m .rows) (k .held) (m .held);
           said = said-then (k .said) (m .said);
-          noted = notings-then x u₀ (w₀ .count) (s .strays) (paying D (payingOf w) c .strays) (k .noted) (m .noted);
+          noted = notings-then x u₀ (w₀ .cursor .unmapped) (s .strays) (paying D (payingOf w) c .strays) (k .noted) (m .noted);
         }

@@ -18,6 +18,6 @@ pub record Walked (s : Paying Place) (w r : Code.Walk) (x : List ℕ) (h h′ e 
   pub last : waits (r .waiting) ≡ s .last
   pub rows : List (Transfer Place)
   pub whole : s .rows ≡ rows ++ waitingRows (r .waiting)
-  pub held : Placed h (w .«held_at») (rowsOf heldRow (map transfer rows)) h′ (r .«held_at»)
-  pub said : Said (s .says) e (w .at) e′ (r .at)
-  pub noted : Noted (notings x u (w .count) (s .strays)) u′ (r .count)
+  pub held : Placed h (w .cursor .held) (rowsOf heldRow (map transfer rows)) h′ (r .cursor .held)
+  pub said : Said (s .says) e (w .cursor .entries) e′ (r .cursor .entries)
+  pub noted : Noted (notings x u (w .cursor .unmapped) (s .strays)) u′ (r .cursor .unmapped)

@@ -1,36 +1,36 @@
 // BG-17: accounts, and the providers that follow them.
 ghost use mathlib.Core.Bool.{false};
-ghost use mathlib.Core.Path.{_≡_};
 ghost use mathlib.Core.List.{List, [], map};
 ghost use Prim.Native.Nat.{ℕ};
 ghost use lib.IntN.{ℤ};
 ghost use Rattle.report.specs.Rows.{transfer};
-ghost use Rattle.report.specs.Values.{textOf, transferOf};
+ghost use Rattle.report.specs.Values.{textOf};
 ghost use Rattle.report.specs.Encoding.{heldRow, rowsOf};
 ghost use Rattle.report.specs.Placed.{Placed};
 ghost use Rattle.settlement.specs.Payments.{creditorAccount, institution, joined, lost, providerOf, part};
 ghost use Rattle.element.specs.LinkDoc.{linkDoc};
 ghost use Rattle.payment.specs.Walks.{waitingRows, payingOf};
 ghost use Rattle.payment.specs.Walked.{Walked};
-use crate::means::account_of;
-use crate::means::leave_out;
-use crate::means::not_held;
+use crate::card_or_debit::account_of;
+use crate::card_or_debit::leave_out;
+use crate::card_or_debit::not_held;
 use crate::paying::Means;
 use crate::paying::Payment;
 use crate::paying::Waiting;
 use crate::paying::Walk;
 use names::Message;
 use names::Path;
+use report::Cursor;
 use report::Text;
 use report::Transfer;
 
 // Puts the row of the account that waits, if one does, and answers where the next goes.
-pub(crate) fn put_waiting(held: &mut [i64], held_at: usize, waiting: Waiting) -> usize
-    ensures { λ r. ⌜ Placed (now (held .entry)) «held_at» (rowsOf heldRow (map transfer (waitingRows waiting))) (now (held .exit)) r ⌝ }
+pub(crate) fn put_waiting(held: &mut [i64], at: usize, waiting: Waiting) -> usize
+    ensures { λ r. ⌜ Placed (now (held .entry)) at (rowsOf heldRow (map transfer (waitingRows waiting))) (now (held .exit)) r ⌝ }
 {
     match waiting {
-        Waiting::Nothing => held_at,
-        Waiting::Account(t) => report::put_transfer(held, held_at, t),
+        Waiting::Nothing => at,
+        Waiting::Account(t) => report::put_transfer(held, at, t),
     }
 }
 
@@ -46,8 +46,6 @@ fn hold_account(
     ensures { λ r. ⌜ ((x : List ℕ) (e u : List ℤ) → Walked (joined (linkDoc (now (table .entry)) (now (text .entry)) (now (links .entry))) c (payingOf walk)) walk r x (now (held .entry)) (now (held .exit)) e e u u) ⌝ }
 {
     let payment = walk.payment;
-    let code = payment.code;
-    let words = payment.text;
     let waiting = walk.waiting;
     let account = Transfer {
         account: account_of(table, text, links, c),
@@ -57,14 +55,14 @@ fn hold_account(
     Walk {
         payment: Payment {
             met: true,
-            code,
-            text: words,
             means: Means::Transfers,
+            ..payment
         },
         waiting: Waiting::Account(account),
-        held_at: put_waiting(held, walk.held_at, waiting),
-        at: walk.at,
-        count: walk.count,
+        cursor: Cursor {
+            held: put_waiting(held, walk.cursor.held, waiting),
+            ..walk.cursor
+        },
     }
 }
 
@@ -73,15 +71,21 @@ fn hold_account(
 fn lose_account(held: &mut [i64], entries: &mut [i64], walk: Walk) -> Walk
     ensures { λ r. ⌜ ((x : List ℕ) (u : List ℤ) → Walked (lost (payingOf walk)) walk r x (now (held .entry)) (now (held .exit)) (now (entries .entry)) (now (entries .exit)) u u) ⌝ }
 {
-    let payment = walk.payment;
     let waiting = walk.waiting;
     let path = Path::PaymentMeansCreditorAccount;
     Walk {
-        payment,
         waiting: Waiting::Nothing,
-        held_at: put_waiting(held, walk.held_at, waiting),
-        at: not_held(entries, walk.at, path, Message::AccountBesideOther),
-        count: walk.count,
+        cursor: Cursor {
+            held: put_waiting(held, walk.cursor.held, waiting),
+            entries: not_held(
+                entries,
+                walk.cursor.entries,
+                path,
+                Message::AccountBesideOther,
+            ),
+            ..walk.cursor
+        },
+        ..walk
     }
 }
 
@@ -104,19 +108,6 @@ pub(crate) fn creditor_account(
         Means::Transfers => hold_account(table, text, links, held, walk, c),
         Means::Card(_) => lose_account(held, entries, walk),
         Means::Debit(_) => lose_account(held, entries, walk),
-    }
-}
-
-// A transfer with another provider.
-fn with_provider(t: Transfer, provider: Text) -> Transfer
-    ensures { λ r. ⌜ transferOf r ≡ record { account = textOf (t .account); name = textOf (t .name); provider = textOf provider } ⌝ }
-{
-    let account = t.account;
-    let name = t.name;
-    Transfer {
-        account,
-        name,
-        provider,
     }
 }
 
@@ -148,16 +139,12 @@ pub(crate) fn institution(
     ensures { λ r. ⌜ ((h u : List ℤ) → Walked (part (linkDoc (now (table .entry)) (now (text .entry)) (now (links .entry))) institution (payingOf walk) c) walk r (now (text .entry)) h h (now (entries .entry)) (now (entries .exit)) u u) ⌝ }
 {
     let provider = element::kid_text(table, text, links, 0, c, b"BICID");
-    let payment = walk.payment;
     let waiting = walk.waiting;
     match waiting {
         Waiting::Nothing => without_account(entries, walk, provider),
         Waiting::Account(t) => Walk {
-            payment,
-            waiting: Waiting::Account(with_provider(t, provider)),
-            held_at: walk.held_at,
-            at: walk.at,
-            count: walk.count,
+            waiting: Waiting::Account(Transfer { provider, ..t }),
+            ..walk
         },
     }
 }

@@ -40,18 +40,14 @@ pub(crate) fn type_code(table: &[u32], text: &[u8], links: &[u16], walk: Walk, c
 {
     let payment = walk.payment;
     let earlier = payment.code;
-    let words = payment.text;
-    let means = payment.means;
-    let code = first_code(table, text, links, earlier, c);
-    let made = Payment {
-        met: true,
-        code,
-        text: words,
-        means,
-    };
-    let mut next = walk;
-    next.payment = made;
-    next
+    Walk {
+        payment: Payment {
+            met: true,
+            code: first_code(table, text, links, earlier, c),
+            ..payment
+        },
+        ..walk
+    }
 }
 
 // A child Information (BT-82).
@@ -59,17 +55,13 @@ pub(crate) fn information(table: &[u32], text: &[u8], links: &[u16], walk: Walk,
     ensures { λ r. ⌜ ((h e u : List ℤ) → Walked (part (linkDoc (now (table .entry)) (now (text .entry)) (now (links .entry))) information (payingOf walk) c) walk r (now (text .entry)) h h e e u u) ⌝ }
 {
     let payment = walk.payment;
-    let code = payment.code;
     let earlier = payment.text;
-    let means = payment.means;
-    let words = first_text(table, text, links, earlier, c);
-    let made = Payment {
-        met: true,
-        code,
-        text: words,
-        means,
-    };
-    let mut next = walk;
-    next.payment = made;
-    next
+    Walk {
+        payment: Payment {
+            met: true,
+            text: first_text(table, text, links, earlier, c),
+            ..payment
+        },
+        ..walk
+    }
 }

@@ -6,8 +6,8 @@
 // lists: what has no room is left out. No public function has a `requires`, and the crate assumes
 // nothing of its own.
 mod accounts;
+mod card_or_debit;
 mod instructions;
-mod means;
 mod parts;
 mod paying;
 mod walk;
@@ -16,4 +16,4 @@ pub use paying::Means;
 pub use paying::Payment;
 pub use paying::PaymentCard;
 pub use walk::PaymentSaid;
-pub use walk::payment_means;
+pub use walk::fill_in;

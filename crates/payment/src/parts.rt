@@ -20,25 +20,21 @@ pub(crate) enum Part {
 fn part_named(name: &[u8]) -> Part
     ensures { λ r. ⌜ partIs r ≡ meant unknown parts (now (name .entry)) ⌝ }
 {
-    if text::same(name, b"TypeCode") {
-        return Part::TypeCode;
+    let names = b"\x08TypeCode\
+        \x0bInformation\
+        \x26ApplicableTradeSettlementFinancialCard\
+        \x20PayerPartyDebtorFinancialAccount\
+        \x22PayeePartyCreditorFinancialAccount\
+        \x2aPayeeSpecifiedCreditorFinancialInstitution";
+    match text::place_of(names, name) {
+        0 => Part::TypeCode,
+        1 => Part::Information,
+        2 => Part::FinancialCard,
+        3 => Part::DebtorAccount,
+        4 => Part::CreditorAccount,
+        5 => Part::Institution,
+        _ => Part::Unknown,
     }
-    if text::same(name, b"Information") {
-        return Part::Information;
-    }
-    if text::same(name, b"ApplicableTradeSettlementFinancialCard") {
-        return Part::FinancialCard;
-    }
-    if text::same(name, b"PayerPartyDebtorFinancialAccount") {
-        return Part::DebtorAccount;
-    }
-    if text::same(name, b"PayeePartyCreditorFinancialAccount") {
-        return Part::CreditorAccount;
-    }
-    if text::same(name, b"PayeeSpecifiedCreditorFinancialInstitution") {
-        return Part::Institution;
-    }
-    Part::Unknown
 }
 
 // What element c is.

@@ -1,4 +1,5 @@
 // The payment so far, and the walk over the children of a payment means.
+use report::Cursor;
 use report::Text;
 use report::Transfer;
 
@@ -31,12 +32,9 @@ pub(crate) enum Waiting {
     Account(Transfer),
 }
 
-// The payment so far, the account that waits, and where the next rows and entries go, and how many
-// unmapped elements there are.
+// The payment so far, the account that waits, and where the next rows go.
 pub(crate) struct Walk {
     pub payment: Payment,
     pub waiting: Waiting,
-    pub held_at: usize,
-    pub at: usize,
-    pub count: usize,
+    pub cursor: Cursor,
 }

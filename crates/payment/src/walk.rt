@@ -1,8 +1,7 @@
 // The walk over the children of a payment means.
-ghost use mathlib.Core.Path.{_≡_};
 ghost use mathlib.Core.List.{List, foldl};
 ghost use lib.IntN.{ℤ};
-ghost use Rattle.settlement.specs.Payments.{unknown, payingStart, part, paying, paymentMeansOf};
+ghost use Rattle.settlement.specs.Payments.{unknown, part, paying, paymentMeansOf};
 ghost use Rattle.element.specs.LinkDoc.{linkDoc};
 ghost use Rattle.unmapped.specs.Acted.{Acted};
 ghost use Rattle.payment.specs.Walks.{paymentOf, payingOf};
@@ -10,46 +9,23 @@ ghost use Rattle.payment.specs.Walked.{Walked};
 use crate::accounts::creditor_account;
 use crate::accounts::institution;
 use crate::accounts::put_waiting;
+use crate::card_or_debit::debtor_account;
+use crate::card_or_debit::financial_card;
 use crate::instructions::information;
 use crate::instructions::type_code;
-use crate::means::debtor_account;
-use crate::means::financial_card;
 use crate::parts::Part;
 use crate::parts::part_of;
 use crate::paying::Payment;
 use crate::paying::Waiting;
 use crate::paying::Walk;
 use names::Parent;
+use report::Cursor;
 use report::Unmapped;
 
-// The payment after a payment means, where the next rows and entries go, and how many unmapped
-// elements there are.
+// The payment after a payment means, and where the next rows go.
 pub struct PaymentSaid {
     pub payment: Payment,
-    pub held_at: usize,
-    pub at: usize,
-    pub count: usize,
-}
-
-// The walk before the first child: a payment means was met, and no account waits.
-fn started(payment: Payment, held_at: usize, at: usize, count: usize) -> Walk
-    ensures { λ r. ⌜ (payingOf r ≡ payingStart (paymentOf payment)) × (r .«held_at» ≡ «held_at») × (r .at ≡ at) × (r .count ≡ count) ⌝ }
-{
-    let code = payment.code;
-    let words = payment.text;
-    let means = payment.means;
-    Walk {
-        payment: Payment {
-            met: true,
-            code,
-            text: words,
-            means,
-        },
-        waiting: Waiting::Nothing,
-        held_at,
-        at,
-        count,
-    }
+    pub cursor: Cursor,
 }
 
 // A child that is not mapped is noted.
@@ -67,9 +43,13 @@ fn unmapped_part(
         parent: Parent::PaymentMeans,
         name: element::name(table, c),
     };
-    let mut next = walk;
-    next.count = unmapped::note_unmapped(text, unmapped, walk.count, element);
-    next
+    Walk {
+        cursor: Cursor {
+            unmapped: unmapped::note_unmapped(text, unmapped, walk.cursor.unmapped, element),
+            ..walk.cursor
+        },
+        ..walk
+    }
 }
 
 // One child more.
@@ -125,29 +105,36 @@ fn read_children(
 }
 
 // Fills in the payment so far by the payment means that is element n.
-pub fn payment_means(
+pub fn fill_in(
     table: &[u32],
     text: &[u8],
     links: &[u16],
     held: &mut [i64],
-    held_at: usize,
     entries: &mut [i64],
-    at: usize,
     unmapped: &mut [i64],
-    count: usize,
+    cursor: Cursor,
     payment: Payment,
     n: usize,
 ) -> PaymentSaid
-    ensures { λ r. ⌜ Acted (paymentMeansOf (linkDoc (now (table .entry)) (now (text .entry)) (now (links .entry))) (paymentOf payment) n) (now (text .entry)) (paymentOf (r .payment)) (now (held .entry)) «held_at» (now (held .exit)) (r .«held_at») (now (entries .entry)) at (now (entries .exit)) (r .at) (now (unmapped .entry)) count (now (unmapped .exit)) (r .count) ⌝ }
+    ensures { λ r. ⌜ Acted (paymentMeansOf (linkDoc (now (table .entry)) (now (text .entry)) (now (links .entry))) (paymentOf payment) n) (now (text .entry)) (paymentOf (r .payment)) cursor (r .cursor) (now (held .entry)) (now (held .exit)) (now (entries .entry)) (now (entries .exit)) (now (unmapped .entry)) (now (unmapped .exit)) ⌝ }
 {
-    let start = started(payment, held_at, at, count);
+    // A payment means was met, and no account waits.
+    let start = Walk {
+        payment: Payment {
+            met: true,
+            ..payment
+        },
+        waiting: Waiting::Nothing,
+        cursor,
+    };
     let walk = read_children(table, text, links, held, entries, unmapped, start, n);
-    let paid = walk.payment;
+    let payment = walk.payment;
     let waiting = walk.waiting;
     PaymentSaid {
-        payment: paid,
-        held_at: put_waiting(held, walk.held_at, waiting),
-        at: walk.at,
-        count: walk.count,
+        payment,
+        cursor: Cursor {
+            held: put_waiting(held, walk.cursor.held, waiting),
+            ..walk.cursor
+        },
     }
 }

@@ -1,9 +1,9 @@
 -- Demand 3 at the calls: two calls that read, lent any lists, whose tables describe the same settlement except for an exchange, leave numbers that show the same but for the order of rows.
 use mathlib.Core.Path.{_≡_, refl, sym, ap, _∙_}
 use mathlib.Core.Bool.{Bool, true, false, cond}
-use mathlib.Core.List.{List, [], _∷_, map, Perm·map}
+use mathlib.Core.List.{List, [], _∷_, _++_, map, Perm·map}
 use mathlib.Core.Option.{Option, none, some, Option·map}
-use Prim.Native.Nat.{ℕ}
+use Prim.Native.Nat.{ℕ, _+_, _-_}
 use lib.Dec.{eqb}
 use lib.IntN.{ℤ, pos}
 use lib.ListN.{length, replicate}
@@ -12,7 +12,8 @@ use Rattle.names.specs.Path.{pathNumber}
 use Rattle.names.specs.Term.{termNumber}
 use Rattle.names.specs.Parent.{parentNumber}
 use Rattle.report.specs.Rows.{Place, Entry, AllowanceCharge, Held, transfer, vat, allowance, charge, preceding, Unmapped, mapEntry, mapTransfer, mapVat, mapAllowanceCharge, mapPreceding, mapHeld, mapUnmapped}
-use Rattle.report.specs.Encoding.{heldWidth, entryWidth, unmappedWidth, placeStart, placeLength, textStart, textLength, unscaled, scale, present, hundredths, orAbsent, heldRow, entryRow, unmappedRow, rowsOf, rowsThen}
+use Rattle.report.specs.Columns.{Column, width, entryColumns, unmappedColumns, transferColumns, vatColumns, allowanceChargeColumns, precedingColumns, heldColumns}
+use Rattle.report.specs.Encoding.{heldWidth, entryWidth, unmappedWidth, placeStart, placeLength, textStart, textLength, percentCells, amountCells, orAbsent, heldRow, entryRow, unmappedRow, rowsOf, rowsThen}
 use Rattle.report.proofs.RowsOf.{cut-exit}
 use Rattle.report.proofs.Widths.{held-width, entry-width, unmapped-width}
 use Rattle.settlement.specs.Shapes.{Reading}
@@ -28,7 +29,7 @@ use Rattle.settlement.specs.Exchange.{Exchanged}
 use Rattle.settlement.proofs.AnyOrder.{same-settlement, order-free}
 use Rattle.settlement.proofs.Results.{outcome-zero, tidy-shows}
 use Rattle.reader.specs.Answered.{roomOf}
-use Rattle.reader.specs.Calls.{Cell, number, absent, bytes, textCell, shownRow, entryColumns, unmappedColumns, kindOf, shownHeldRow, Exit, heldIn, shownHeld, shownOfKind, shownEntries, shownUnmapped, AlikeRows, SameRows, Call, Promised, exitOf, shownTerms, AlikeCalls, SameCalls}
+use Rattle.reader.specs.Calls.{Cell, number, absent, bytes, textCell, columnCells, shownRow, kindOf, shownHeldRow, Exit, heldIn, shownHeld, shownOfKind, shownEntries, shownUnmapped, AlikeRows, SameRows, Call, Promised, exitOf, shownTerms, AlikeCalls, SameCalls}
 
 -- rows that pass a test, and what passes it
 keep-map : {A B : Type 0} (f : A → B) (s : A → Bool) (t : B → Bool) → ((a : A) → t (f a) ≡ s a) → (l : List A) → keep t (map f l) ≡ map f (keep s l)
@@ -63,29 +64,45 @@ entryCells e = number (pos (messageNumber (e .message))) ∷ number (pos (pathNu
 abbrev unmappedCells : Unmapped (List ℕ) → List Cell
 unmappedCells u = number (pos (parentNumber (u .parent))) ∷ bytes (u .name) ∷ []
 
+-- the unused numbers of a held row
+abbrev widths : List Column → ℕ
+widths [] = 0
+widths (c ∷ cs) = width c + widths cs
+
+abbrev unused : List Column → List Cell
+unused cs = replicate (heldWidth - widths cs) (number (pos 0))
+
 abbrev allowanceChargeCells : ℕ → AllowanceCharge (List ℕ) → List Cell
 allowanceChargeCells k a =
-    number (pos k) ∷ number (a .amount) ∷ number (present (a .base)) ∷ number (hundredths (a .base)) ∷ number (unscaled (a .percentage)) ∷ number (scale (a .percentage)) ∷ bytes (a .category) ∷ number (unscaled (a .rate)) ∷ number (scale (a .rate)) ∷ cellOf (a .reason) ∷ cellOf (a .code) ∷ []
+    number (pos k) ∷
+    number (a .amount) ∷
+    map number (amountCells (a .base)) ++
+    map number (percentCells (a .percentage)) ++
+    bytes (a .category) ∷
+    map number (percentCells (a .rate)) ++
+    cellOf (a .reason) ∷
+    cellOf (a .code) ∷ unused allowanceChargeColumns
 
 abbrev heldCells : Held (List ℕ) → List Cell
-heldCells (transfer t) = number (pos 1) ∷ cellOf (t .account) ∷ cellOf (t .name) ∷ cellOf (t .provider) ∷ replicate 7 (number (pos 0))
-heldCells (vat v) = number (pos 2) ∷ number (v .taxable) ∷ number (v .tax) ∷ bytes (v .category) ∷ number (unscaled (v .rate)) ∷ number (scale (v .rate)) ∷ cellOf (v .reason) ∷ cellOf (v .code) ∷ replicate 3 (number (pos 0))
+heldCells (transfer t) = number (pos 1) ∷ cellOf (t .account) ∷ cellOf (t .name) ∷ cellOf (t .provider) ∷ unused transferColumns
+heldCells (vat v) =
+    number (pos 2) ∷ number (v .taxable) ∷ number (v .tax) ∷ bytes (v .category) ∷ map number (percentCells (v .rate)) ++ cellOf (v .reason) ∷ cellOf (v .code) ∷ unused vatColumns
 heldCells (allowance a) = allowanceChargeCells 3 a
 heldCells (charge a) = allowanceChargeCells 4 a
-heldCells (preceding p) = number (pos 5) ∷ bytes (p .reference) ∷ number (orAbsent (p .date)) ∷ replicate 10 (number (pos 0))
+heldCells (preceding p) = number (pos 5) ∷ bytes (p .reference) ∷ number (orAbsent (p .date)) ∷ unused precedingColumns
 
 -- showing a row is showing its places
 module _ (x : List ℕ) where
   entry-shown : (e : Entry Place) → shownRow entryColumns x (entryRow e) ≡ entryCells (mapEntry (shows x) e)
-  unfolding shownRow entryRow mapEntry
+  unfolding shownRow columnCells entryRow mapEntry
   entry-shown e = rw (text-shown x (e .value))
 
   unmapped-shown : (u : Unmapped Place) → shownRow unmappedColumns x (unmappedRow u) ≡ unmappedCells (mapUnmapped (shows x) u)
-  unfolding shownRow unmappedRow mapUnmapped
+  unfolding shownRow columnCells unmappedRow mapUnmapped
   unmapped-shown u = rw (place-shown x (u .name))
 
   held-shown : (h : Held Place) → shownHeldRow x (heldRow h) ≡ heldCells (mapHeld (shows x) h)
-  unfolding shownRow heldRow mapHeld mapTransfer mapVat mapAllowanceCharge mapPreceding
+  unfolding heldColumns shownRow columnCells heldRow mapHeld mapTransfer mapVat mapAllowanceCharge mapPreceding
   held-shown (transfer t) = rw (text-shown x (t .account), text-shown x (t .name), text-shown x (t .provider))
   held-shown (vat v) = rw (place-shown x (v .category), text-shown x (v .reason), text-shown x (v .code))
   held-shown (allowance a) = rw (place-shown x (a .category), text-shown x (a .reason), text-shown x (a .code))

@@ -35,8 +35,8 @@ use Rattle.steps.specs.declared.state.MaybePayee.{MaybePayee}
 use Rattle.steps.specs.declared.state.MaybePayee.the-variants as MaybePayee
 use Rattle.steps.specs.declared.state.MaybePeriod.{MaybePeriod}
 use Rattle.steps.specs.declared.state.MaybePeriod.the-variants as MaybePeriod
-use Rattle.ending.specs.Terms.{termsOf}
-use Rattle.ending.specs.declared.terms.Terms as CodeTerms
+use Rattle.terms.specs.Terms.{termsOf}
+use Rattle.terms.specs.declared.terms.Terms as CodeTerms
 use Rattle.reader.specs.Answered.{roomOf}
 use Rattle.reader.specs.Calls.{Call, Promised}
 use Rattle.reader.specs.declared.answer.Answer as Code

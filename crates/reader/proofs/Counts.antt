@@ -4,6 +4,7 @@ use mathlib.Core.List.{List}
 use Prim.Native.Nat.{ℕ, _*_, _≤_}
 use native.Mathlib.Omega.{arith}
 use Rattle.table.specs.Table.{records}
+use Rattle.report.specs.Encoding.{recordEntries}
 use Rattle.settlement.specs.Values.{Lent}
 use Rattle.settlement.specs.Outcome.{Room, Outcome, refused, read, outcome}
 use Rattle.settlement.specs.Result.{resultOf}
@@ -12,11 +13,11 @@ use Rattle.reader.specs.Answered.{roomOf}
 use Rattle.reader.specs.Calls.{Call, Promised, exitOf, Afforded}
 
 -- the counts of every outcome
-pub counts-afforded : (L : Lent) (m : Room) (t x : List ℕ) → (resultOf (outcome L m t x) .heldCount ≤ records t) × (resultOf (outcome L m t x) .entryCount ≤ 4 * records t) × (resultOf (outcome L m t x) .unmappedCount ≤ records t)
+pub counts-afforded : (L : Lent) (m : Room) (t x : List ℕ) → (resultOf (outcome L m t x) .heldCount ≤ records t) × (resultOf (outcome L m t x) .entryCount ≤ recordEntries * records t) × (resultOf (outcome L m t x) .unmappedCount ≤ records t)
 unfolding resultOf
 counts-afforded L m t x = go (outcome L m t x) refl
   where
-    go : (o : Outcome) → outcome L m t x ≡ o → (resultOf o .heldCount ≤ records t) × (resultOf o .entryCount ≤ 4 * records t) × (resultOf o .unmappedCount ≤ records t)
+    go : (o : Outcome) → outcome L m t x ≡ o → (resultOf o .heldCount ≤ records t) × (resultOf o .entryCount ≤ recordEntries * records t) × (resultOf o .unmappedCount ≤ records t)
     go (refused n r) e = (omega arith, omega arith, omega arith)
     go (read r) e = let w = outcome-within L m t x r e in (w .held, w .entries, w .unmapped)
 

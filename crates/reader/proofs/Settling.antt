@@ -38,13 +38,13 @@ use Rattle.unmapped.proofs.Notes.{listed-none, noted-all, table-order}
 use Rattle.steps.specs.States.{stateOf}
 use Rattle.children.specs.Walks.{countable, Read}
 use Rattle.steps.specs.declared.state.State as State
-use Rattle.ending.specs.Terms.{termsOf}
+use Rattle.terms.specs.Terms.{termsOf}
 use Rattle.reader.specs.Answers.{Refused}
 use Rattle.reader.specs.Answered.{roomOf, Answered}
-use Rattle.ending.specs.Endings.{Ended}
+use Rattle.terms.specs.Endings.{Ended}
 use Rattle.reader.specs.Spelled.{Spelled}
 use Rattle.reader.specs.declared.answer.Answer as Code
-use Rattle.ending.specs.declared.finishing.Finished as Finished
+use Rattle.terms.specs.declared.finishing.Finished as Finished
 
 -- numbers that were put at the front of a list with room for them
 put-front : (l vs : List ℤ) {l′ : List ℤ} → l′ ≡ put l 0 vs → length vs ≤ length l → l′ ≡ rowsThen vs l
@@ -73,7 +73,7 @@ module _
     (accepted : refusal t x ≡ none) (room : cramped (roomOf h e u) t ≡ false)
     (l : List ℕ) (spelled : Spelled t x l)
     (walked : Read L (linkDoc t x l) x (countable l (linkDoc t x l .kids 0)) s h h′ e e₁ u u′)
-    (ended : Ended (reading.termsOf (stateOf s)) (reading.lateOf (L .rules) (stateOf s)) e₁ (s .next .at) f e′) where
+    (ended : Ended (reading.termsOf (stateOf s)) (reading.lateOf (L .rules) (stateOf s)) e₁ (s .cursor .entries) f e′) where
   abbrev whole : Reading Place
   whole = reading.reading L (tableDoc t x) 0
 
@@ -87,7 +87,7 @@ module _
   unfolding reading.reading reading.readingOf tableDoc
   terms-read = ended .terms ∙ ap reading.termsOf (all-read .state)
 
-  held-read : Placed h 0 (rowsOf heldRow (whole .held)) h′ (s .next .«held_at»)
+  held-read : Placed h 0 (rowsOf heldRow (whole .held)) h′ (s .cursor .held)
   unfolding reading.reading reading.readingOf tableDoc
   held-read = all-read .held
 
@@ -95,11 +95,11 @@ module _
   unfolding reading.reading reading.readingOf tableDoc
   entries-read = said-then (all-read .said) (rw (all-read .state) at (ended .said))
 
-  unmapped-read : Listed x u (whole .unmapped) u′ (s .next .count)
+  unmapped-read : Listed x u (whole .unmapped) u′ (s .cursor .unmapped)
   unfolding reading.reading reading.readingOf tableDoc
   unmapped-read = rw (table-order t x) (noted-all _ (listed-none x u) (omega (arith, strays-fit L (roomOf h e u) t x accepted room)) (all-read .noted))
 
-  pub answered : Answered (read whole) (record { refusal = 0; place = 0; held = s .next .«held_at» / 14; entries = f .at / 6; unmapped = s .next .count; terms = f .terms }) h h′ e e′ u u′
+  pub answered : Answered (read whole) (record { refusal = 0; place = 0; held = s .cursor .held / heldWidth; entries = f .at / entryWidth; unmapped = s .cursor .unmapped; terms = f .terms }) h h′ e e′ u u′
   unfolding resultOf
   answered =
       let a = rows-length heldRow heldWidth held-width (whole .held) in

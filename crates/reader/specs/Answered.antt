@@ -1,13 +1,20 @@
 -- What a call of the reader did, against what it is defined to answer (document 01, "Rows" and "Where each refusal is checked").
 use mathlib.Core.Path.{_≡_}
+use mathlib.Core.Bool.{Bool}
 use mathlib.Core.List.{List}
+use Prim.Native.Nat.{ℕ}
 use lib.IntN.{ℤ}
 use lib.ListN.{length}
 use Rattle.report.specs.Encoding.{rowsThen}
+use Rattle.settlement.specs.Values.{Lent}
 use Rattle.settlement.specs.Outcome.{Room, Outcome}
 use Rattle.settlement.specs.Result.{resultOf}
-use Rattle.ending.specs.Terms.{termsOf}
+use Rattle.terms.specs.Terms.{termsOf}
 use Rattle.reader.specs.declared.answer.Answer as Code
+
+-- what is lent beside a table, by its numbers
+abbrev pub lentWith : ℕ → ℕ → List ℕ → Bool → Lent
+lentWith mode rules currency extension = record { mode = mode; rules = rules; currency = currency; extension = extension }
 
 -- the room of the three lent lists
 abbrev pub roomOf : List ℤ → List ℤ → List ℤ → Room

@@ -2,7 +2,7 @@
 use mathlib.Core.Path.{_≡_}
 use Prim.Native.Nat.{ℕ}
 use Rattle.settlement.specs.Result.{blankTerms}
-use Rattle.ending.specs.Terms.{termsOf}
+use Rattle.terms.specs.Terms.{termsOf}
 use Rattle.reader.specs.declared.answer.Answer.{Answer}
 
 -- a refusal: its number and record, blank terms, zero counts

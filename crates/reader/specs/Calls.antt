@@ -1,29 +1,25 @@
 -- Two calls of the reader, compared by the numbers that they leave in the lent lists (document 01, "Rows": by what spans show, absent apart from empty, not by their places).
 use mathlib.Core.Path.{_≡_}
-use mathlib.Core.List.{List, [], _∷_, map, Perm}
+use mathlib.Core.List.{List, [], _∷_, _++_, map, Perm}
 use Prim.Native.Nat.{ℕ, _*_, _≤_}
 use lib.Dec.{eqb}
 use lib.IntN.{ℤ, pos, negsuc}
-use lib.ListN.{getD}
+use lib.ListN.{getD, take, drop}
 use Rattle.text.specs.Span.{clipped}
 use Rattle.table.specs.Table.{records}
-use Rattle.report.specs.Encoding.{heldWidth, entryWidth, unmappedWidth, cutRows}
+use Rattle.report.specs.Columns.{Column, text, plain, amount, percent, date, width, entryColumns, unmappedColumns, heldColumns}
+use Rattle.report.specs.Encoding.{heldWidth, entryWidth, unmappedWidth, recordEntries, cutRows}
 use Rattle.settlement.specs.Shapes.{Terms}
 use Rattle.settlement.specs.Values.{Lent}
 use Rattle.settlement.specs.TableDoc.{shows}
 use Rattle.settlement.specs.Shown.{mapTerms}
 use Rattle.settlement.specs.Outcome.{outcome}
 use Rattle.settlement.specs.Alike.{keep}
-use Rattle.ending.specs.Terms.{termsOf}
+use Rattle.terms.specs.Terms.{termsOf}
 use Rattle.reader.specs.Answered.{roomOf, Answered}
 use Rattle.reader.specs.declared.answer.Answer as Code
 
--- what stands in a column of a row: a number, or the start and the length of a text
-pub data Column : Type 0 where
-  plain : Column
-  text : Column
-
--- what it shows: the number itself; of a text nothing, where it is absent, or its bytes
+-- what a row shows: a number itself; of a text nothing, where it is absent, or its bytes
 pub data Cell : Type 0 where
   number : ℤ → Cell
   absent : Cell
@@ -35,42 +31,20 @@ textCell x (pos s) (pos n) = bytes (clipped x s n)
 textCell x (pos s) (negsuc n) = absent
 textCell x (negsuc s) n = absent
 
--- a row through a text, column by column; behind the last column, and for half a text, its numbers
+-- what the numbers of a column show: a text its bytes, half a text and any other its numbers
+unfoldable pub columnCells : List ℕ → Column → List ℤ → List Cell
+columnCells x text [] = []
+columnCells x text (a ∷ []) = number a ∷ []
+columnCells x text (a ∷ b ∷ v) = textCell x a b ∷ map number v
+columnCells x plain v = map number v
+columnCells x amount v = map number v
+columnCells x percent v = map number v
+columnCells x date v = map number v
+
+-- a row through a text, column by column; behind the last column its numbers
 unfoldable pub shownRow : List Column → List ℕ → List ℤ → List Cell
 shownRow [] x v = map number v
-shownRow (plain ∷ c) x [] = []
-shownRow (plain ∷ c) x (a ∷ v) = number a ∷ shownRow c x v
-shownRow (text ∷ c) x [] = []
-shownRow (text ∷ c) x (a ∷ []) = number a ∷ []
-shownRow (text ∷ c) x (a ∷ b ∷ v) = textCell x a b ∷ shownRow c x v
-
--- message, path, term, group index, value
-abbrev pub entryColumns : List Column
-entryColumns = plain ∷ plain ∷ plain ∷ plain ∷ text ∷ []
-
--- parent and name
-abbrev pub unmappedColumns : List Column
-unmappedColumns = plain ∷ text ∷ []
-
--- kind, account, name, provider, unused numbers
-abbrev pub transferColumns : List Column
-transferColumns = plain ∷ text ∷ text ∷ text ∷ []
-
--- kind, taxable, tax, category, rate (two numbers), exemption reason, its code, unused numbers
-abbrev pub vatColumns : List Column
-vatColumns = plain ∷ plain ∷ plain ∷ text ∷ plain ∷ plain ∷ text ∷ text ∷ []
-
--- kind, amount, base present, base, percentage (two numbers), category, rate (two numbers), reason, code
-abbrev pub allowanceChargeColumns : List Column
-allowanceChargeColumns = plain ∷ plain ∷ plain ∷ plain ∷ plain ∷ plain ∷ text ∷ plain ∷ plain ∷ text ∷ text ∷ []
-
--- kind, reference, date, unused numbers
-abbrev pub precedingColumns : List Column
-precedingColumns = plain ∷ text ∷ []
-
--- 1 transfer, 2 VAT, 3 allowance, 4 charge, 5 preceding invoice
-abbrev pub heldColumns : ℕ → List Column
-heldColumns k = getD ([] ∷ transferColumns ∷ vatColumns ∷ allowanceChargeColumns ∷ allowanceChargeColumns ∷ precedingColumns ∷ []) k []
+shownRow (c ∷ cs) x v = columnCells x c (take (width c) v) ++ shownRow cs x (drop (width c) v)
 
 -- a number of a row as a count; one below 0 counts nothing
 abbrev pub natural : ℤ → ℕ
@@ -130,7 +104,7 @@ pub record SameRows (c d : Exit) : Type 0 where
 -- a held row, four entries and an unmapped row for each record of a table, at most
 pub record Afforded (t : List ℕ) (c : Exit) : Type 0 where
   pub held : c .heldCount ≤ records t
-  pub entries : c .entryCount ≤ 4 * records t
+  pub entries : c .entryCount ≤ recordEntries * records t
   pub unmapped : c .unmappedCount ≤ records t
 
 -- a call: table and text, the three lists at entry, the answer, and the three lists at exit

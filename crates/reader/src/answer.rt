@@ -1,6 +1,6 @@
 // What a call answers: the terms of a reading, or a refusal with blank terms.
 ghost use Rattle.reader.specs.Answers.{Refused};
-use ending::Terms;
+use terms::Terms;
 
 // The refusal (0: read) and its record, how many held rows, entries and unmapped rows there are, and
 // the terms.
@@ -23,6 +23,6 @@ pub(crate) fn refused(refusal: u32, place: usize) -> Answer
         held: 0,
         entries: 0,
         unmapped: 0,
-        terms: ending::blank_terms(),
+        terms: terms::blank_terms(),
     }
 }

@@ -9,6 +9,7 @@ use native.Mathlib.Omega.{arith}
 use lib.IntN.{ℤ, pos}
 use lib.ListN.{length, length-map, getD}
 use Rattle.report.specs.Rows.{Place, Held, transfer, vat, allowance, charge, preceding, mapEntry, mapHeld, mapUnmapped}
+use Rattle.report.specs.Columns.{Column}
 use Rattle.report.specs.Encoding.{textCells, orAbsent, rowsThen}
 use Rattle.settlement.specs.Shapes.{Identifier, Payee, Means, unset, card, debit, transfers, Period, Terms, Reading}
 use Rattle.settlement.specs.Values.{Lent}
@@ -23,7 +24,7 @@ use Rattle.settlement.specs.Exchange.{Exchanged}
 use Rattle.settlement.proofs.AnyOrder.{same-settlement, order-free}
 use Rattle.settlement.proofs.Results.{outcome-zero}
 use Rattle.reader.specs.Answered.{roomOf}
-use Rattle.reader.specs.Calls.{Column, Cell, number, absent, bytes, textCell, shownRow, natural}
+use Rattle.reader.specs.Calls.{Cell, number, absent, bytes, textCell, columnCells, shownRow, natural}
 use Rattle.reader.proofs.Calls.{cellOf, place-shown, text-shown, Left, same-rows, alike-rows}
 use Rattle.reader.proofs.Counts.{counts-afforded}
 use Rattle.rulzhamm.proofs.Rows.{regroup}
@@ -86,12 +87,12 @@ laterColumns = paymentColumns ++ meansColumns ++ endColumns
 -- showing the answer is showing its places: each column takes the numbers of its term, and none is left
 module _ (x : List ℕ) where
   identifier-shown : (i : Option (Identifier Place)) (c : List Column) (v : List ℤ) → shownRow (identifierColumns ++ c) x (identifierCells i ++ v) ≡ identifierShown (Option·map (mapIdentifier (shows x)) i) ++ shownRow c x v
-  unfolding shownRow textCell mapIdentifier
+  unfolding shownRow columnCells textCell mapIdentifier
   identifier-shown none c v = refl
   identifier-shown (some i) c v = rw (place-shown x (i .content), text-shown x (i .scheme))
 
   payee-shown : (p : Option (Payee Place)) (c : List Column) (v : List ℤ) → shownRow (payeeColumns ++ c) x (payeeCells p ++ v) ≡ payeeShown (Option·map (mapPayee (shows x)) p) ++ shownRow c x v
-  unfolding shownRow textCell mapPayee
+  unfolding shownRow columnCells textCell mapPayee
   payee-shown none c v = refl
   payee-shown (some p) c v =
       rw (
@@ -103,30 +104,30 @@ module _ (x : List ℕ) where
       )
 
   period-shown : (p : Option Period) (c : List Column) (v : List ℤ) → shownRow (periodColumns ++ c) x (periodCells p ++ v) ≡ map number (periodCells p) ++ shownRow c x v
-  unfolding shownRow
+  unfolding shownRow columnCells
   period-shown none c v = refl
   period-shown (some p) c v = refl
 
   means-shown : (m : Means Place) (c : List Column) (v : List ℤ) → shownRow (meansColumns ++ c) x (meansCells m ++ v) ≡ meansShown (mapMeans (shows x) m) ++ shownRow c x v
-  unfolding shownRow textCell mapMeans
+  unfolding shownRow columnCells textCell mapMeans
   means-shown unset c v = refl
   means-shown transfers c v = refl
   means-shown (card a b) c v = rw (text-shown x a, text-shown x b)
   means-shown (debit a) c v = rw (text-shown x a)
 
   end-shown : (t : Terms Place) → shownRow endColumns x (endNumbers t) ≡ endShown (mapTerms (shows x) t)
-  unfolding shownRow mapTerms
+  unfolding shownRow columnCells mapTerms
   end-shown t = rw (text-shown x (t .bt89), text-shown x (t .bt90))
 
   payment-shown : (t : Terms Place) → shownRow laterColumns x (paymentNumbers t) ≡ paymentShown (mapTerms (shows x) t)
-  unfolding shownRow mapTerms
+  unfolding shownRow columnCells mapTerms
   payment-shown t =
       rw (text-shown x (t .bt81), text-shown x (t .bt82), text-shown x (t .bt83))
       (ap (λ (l : List Cell). number (flag (t .paid)) ∷ cellOf (Option·map (shows x) (t .bt81)) ∷ cellOf (Option·map (shows x) (t .bt82)) ∷ cellOf (Option·map (shows x) (t .bt83)) ∷ l)
       (means-shown (t .means) endColumns (endNumbers t) ∙ ap (λ (l : List Cell). meansShown (mapMeans (shows x) (t .means)) ++ l) (end-shown t)))
 
   terms-shown : (t : Terms Place) → shownRow (plainColumns ++ payeeColumns ++ periodColumns ++ laterColumns) x (termsRow t) ≡ termsShown (mapTerms (shows x) t)
-  unfolding shownRow mapTerms
+  unfolding shownRow columnCells mapTerms
   terms-shown t =
       ap (shownRow (plainColumns ++ payeeColumns ++ periodColumns ++ laterColumns) x) (terms-grouped t) ∙
       rw (text-shown x (t .bt5), text-shown x (t .bt6), text-shown x (t .bt19), text-shown x (t .bt20))
@@ -139,7 +140,7 @@ module _ (x : List ℕ) where
       (r : Result) →
       shownRow answerColumns x (answerRow r) ≡
       number (pos (r .number)) ∷ number (pos (r .place)) ∷ number (pos (r .heldCount)) ∷ number (pos (r .entryCount)) ∷ number (pos (r .unmappedCount)) ∷ termsShown (mapTerms (shows x) (r .terms))
-  unfolding shownRow answerRow
+  unfolding shownRow columnCells answerRow
   answer-shown r =
       ap (λ (l : List Cell). number (pos (r .number)) ∷ number (pos (r .place)) ∷ number (pos (r .heldCount)) ∷ number (pos (r .entryCount)) ∷ number (pos (r .unmappedCount)) ∷ l) (terms-shown (r .terms))
 

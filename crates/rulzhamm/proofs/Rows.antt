@@ -21,10 +21,10 @@ use Rattle.settlement.specs.Result.{flag, identifierCells, payeeCells, periodCe
 use Rattle.payment.specs.Walks.{meansOf}
 use Rattle.totals.specs.Reading.{totalsOf}
 use Rattle.steps.specs.States.{maybePayeeOf, maybePeriodOf}
-use Rattle.ending.specs.Terms.{termsOf}
+use Rattle.terms.specs.Terms.{termsOf}
 use Rattle.reader.specs.Answered.{Answered}
 use Rattle.reader.specs.declared.answer.Answer as Code
-use Rattle.ending.specs.declared.terms.Terms as CodeTerms
+use Rattle.terms.specs.declared.terms.Terms as CodeTerms
 use Rattle.rulzhamm.specs.Called.{Called}
 use Rattle.rulzhamm.specs.Parts.{plainCells, paymentCells, countCells, answerCells, Small}
 use Rattle.settlement.proofs.Sizes.{place-small, counts-small}

@@ -5,10 +5,12 @@ use Prim.Native.Nat.{ℕ, _*_, _≤_}
 use lib.IntN.{ℤ, pos}
 use lib.ListN.{getD}
 use Rattle.table.specs.Table.{records}
+use Rattle.report.specs.Columns.{Column, text, plain, amount, date}
+use Rattle.report.specs.Encoding.{recordEntries}
 use Rattle.settlement.specs.Values.{Lent}
 use Rattle.settlement.specs.Outcome.{outcome}
 use Rattle.reader.specs.Answered.{roomOf}
-use Rattle.reader.specs.Calls.{Column, plain, text, Cell, shownRow, natural, Exit, AlikeRows, SameRows}
+use Rattle.reader.specs.Calls.{Cell, shownRow, natural, Exit, AlikeRows, SameRows}
 use Rattle.rulzhamm.specs.Called.{Called}
 
 -- the columns of the answer (docs/LAYOUT.md): refusal, record, counts of held rows, entries and unmapped rows
@@ -17,7 +19,7 @@ countColumns = plain ∷ plain ∷ plain ∷ plain ∷ plain ∷ []
 
 -- BT-5, BT-6, BT-7, BT-8, BT-9, BT-19, BT-20
 abbrev pub plainColumns : List Column
-plainColumns = text ∷ text ∷ plain ∷ plain ∷ plain ∷ text ∷ text ∷ []
+plainColumns = text ∷ text ∷ date ∷ date ∷ date ∷ text ∷ text ∷ []
 
 -- an identifier and its scheme
 abbrev pub identifierColumns : List Column
@@ -29,7 +31,7 @@ payeeColumns = plain ∷ text ∷ identifierColumns ++ identifierColumns
 
 -- BG-14, BT-73, BT-74
 abbrev pub periodColumns : List Column
-periodColumns = plain ∷ plain ∷ plain ∷ []
+periodColumns = plain ∷ date ∷ date ∷ []
 
 -- BG-16, BT-81, BT-82, BT-83
 abbrev pub paymentColumns : List Column
@@ -43,9 +45,9 @@ meansColumns = plain ∷ text ∷ text ∷ plain ∷ text ∷ []
 abbrev pub debitColumns : List Column
 debitColumns = text ∷ text ∷ []
 
--- BT-106, BT-107 and BT-108 (two numbers each), BT-109, BT-110 and BT-111 (two), BT-112, BT-113 and BT-114 (two), BT-115
+-- BT-106 to BT-115
 abbrev pub totalsColumns : List Column
-totalsColumns = plain ∷ plain ∷ plain ∷ plain ∷ plain ∷ plain ∷ plain ∷ plain ∷ plain ∷ plain ∷ plain ∷ plain ∷ plain ∷ plain ∷ plain ∷ plain ∷ []
+totalsColumns = plain ∷ amount ∷ amount ∷ plain ∷ amount ∷ amount ∷ plain ∷ amount ∷ amount ∷ plain ∷ []
 
 -- all of them
 abbrev pub answerColumns : List Column
@@ -110,5 +112,5 @@ pub record UpTo (n : ℕ) (z : ℤ) : Type 0 where
 -- its counts: a held row, four entries and an unmapped row for each record of its table, at most
 pub record HostAfforded (c : HostCall) : Type 0 where
   pub held : UpTo (records (c .table)) (numberAt c 2)
-  pub entries : UpTo (4 * records (c .table)) (numberAt c 3)
+  pub entries : UpTo (recordEntries * records (c .table)) (numberAt c 3)
   pub unmapped : UpTo (records (c .table)) (numberAt c 4)

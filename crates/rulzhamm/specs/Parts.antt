@@ -6,9 +6,9 @@ use Rattle.report.specs.Encoding.{textCells, orAbsent}
 use Rattle.report.specs.Values.{textOf, dayOf}
 use Rattle.settlement.specs.Result.{flag, termsRow}
 use Rattle.groups.specs.Taxes.{pointCodeOf}
-use Rattle.ending.specs.Terms.{termsOf}
+use Rattle.terms.specs.Terms.{termsOf}
 use Rattle.reader.specs.declared.answer.Answer.{Answer}
-use Rattle.ending.specs.declared.terms.Terms.{Terms}
+use Rattle.terms.specs.declared.terms.Terms.{Terms}
 
 -- BT-5 to BT-9, BT-19 and BT-20
 abbrev pub plainCells : Terms → List ℤ

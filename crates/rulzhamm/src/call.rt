@@ -1,8 +1,7 @@
 // The function for hosts.
 ghost use Rattle.codes.specs.Conformant.{conformant};
 ghost use Rattle.settlement.specs.Outcome.{outcome};
-ghost use Rattle.values.specs.Sites.{lentWith};
-ghost use Rattle.reader.specs.Answered.{roomOf};
+ghost use Rattle.reader.specs.Answered.{lentWith, roomOf};
 ghost use Rattle.rulzhamm.specs.Called.{Called};
 use crate::terms_row::put_answer;
 

@@ -7,13 +7,12 @@ ghost use Rattle.report.specs.Encoding.{textCells, orAbsent};
 ghost use Rattle.report.specs.Values.{textOf};
 ghost use Rattle.settlement.specs.Result.{flag, termsRow};
 ghost use Rattle.groups.specs.Taxes.{pointCodeOf};
-ghost use Rattle.ending.specs.Terms.{termsOf};
+ghost use Rattle.terms.specs.Terms.{termsOf};
 ghost use Rattle.rulzhamm.specs.Parts.{plainCells, paymentCells, countCells, answerCells, Small};
 use crate::groups_row::put_means;
 use crate::groups_row::put_payee;
 use crate::groups_row::put_period;
 use crate::groups_row::put_totals;
-use ending::Terms;
 use groups::PointCode;
 use reader::Answer;
 use report::Text;
@@ -21,6 +20,7 @@ use report::day_number;
 use report::put_row;
 use report::text_length;
 use report::text_start;
+use terms::Terms;
 
 // A count as a signed number.
 fn signed(n: usize) -> i64

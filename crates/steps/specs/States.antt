@@ -9,7 +9,7 @@ use Rattle.groups.specs.Groups.{payeeOf, periodOf, paymentTermsOf}
 use Rattle.groups.specs.Taxes.{vatStateOf}
 use Rattle.payment.specs.Walks.{paymentOf}
 use Rattle.totals.specs.Reading.{totalsOf}
-use Rattle.means.specs.declared.Next.{Next}
+use Rattle.report.specs.declared.cursor.Cursor.{Cursor}
 use Rattle.steps.specs.declared.state.Plain.{Plain}
 use Rattle.steps.specs.declared.state.Tally.{Tally}
 use Rattle.steps.specs.declared.state.Billing.{Billing}
@@ -44,8 +44,8 @@ maybeTotalsOf MaybeTotals.Absent = none
 maybeTotalsOf (MaybeTotals.Of t) = some (totalsOf t)
 
 -- the state of its parts
-abbrev pub state : Plain → Tally → Billing → MaybeTotals → Next → Code.State
-state p t b m n = record { plain = p; tally = t; billing = b; totals = m; next = n }
+abbrev pub state : Plain → Tally → Billing → MaybeTotals → Cursor → Code.State
+state p t b m c = record { plain = p; tally = t; billing = b; totals = m; cursor = c }
 
 -- what each lane holds
 abbrev pub stateOf : Code.State → State Place
@@ -55,7 +55,7 @@ stateOf s taxCurrency = textOf (s .plain .«tax_currency»)
 stateOf s invoiceCurrency = textOf (s .plain .«invoice_currency»)
 stateOf s payee = maybePayeeOf (s .plain .payee)
 stateOf s paymentMeans = paymentOf (s .billing .payment)
-stateOf s tradeTax = vatStateOf (s .tally .breakdowns) (s .tally .vat)
+stateOf s tradeTax = vatStateOf (s .tally .vat)
 stateOf s period = maybePeriodOf (s .billing .period)
 stateOf s allowanceCharge = record { allowances = s .tally .allowances; charges = s .tally .charges }
 stateOf s logisticsCharge = tt
@@ -68,6 +68,6 @@ stateOf s other = tt
 -- before the first child: every lane is blank, and rows go to the front
 pub record Fresh (s : Code.State) : Type 0 where
   pub lanes : stateOf s ≡ blank Place
-  pub held : s .next .«held_at» ≡ 0
-  pub entries : s .next .at ≡ 0
-  pub unmapped : s .next .count ≡ 0
+  pub held : s .cursor .held ≡ 0
+  pub entries : s .cursor .entries ≡ 0
+  pub unmapped : s .cursor .unmapped ≡ 0

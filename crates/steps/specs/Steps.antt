@@ -29,6 +29,6 @@ module _ (L : Lent) (D : Doc ℕ Place) where
 -- child c, of kind k, made r of s, and put what it holds, says and does not map into the three lists
 pub record Stepped (k : Kind) (L : Lent) (D : Doc ℕ Place) (x : List ℕ) (c : ℕ) (s r : Code.State) (h h′ e e′ u u′ : List ℤ) : Type 0 where
   pub state : stateOf r ≡ stepBy L D k (stateOf s) c
-  pub held : Placed h (s .next .«held_at») (rowsOf heldRow (actBy L D k (home k) (stateOf s) c .holds)) h′ (r .next .«held_at»)
-  pub said : Said (actBy L D k (home k) (stateOf s) c .says) e (s .next .at) e′ (r .next .at)
-  pub noted : Noted (notings x u (s .next .count) (actBy L D k (home k) (stateOf s) c .strays)) u′ (r .next .count)
+  pub held : Placed h (s .cursor .held) (rowsOf heldRow (actBy L D k (home k) (stateOf s) c .holds)) h′ (r .cursor .held)
+  pub said : Said (actBy L D k (home k) (stateOf s) c .says) e (s .cursor .entries) e′ (r .cursor .entries)
+  pub noted : Noted (notings x u (s .cursor .unmapped) (actBy L D k (home k) (stateOf s) c .strays)) u′ (r .cursor .unmapped)

@@ -3,7 +3,7 @@ ghost use mathlib.Core.List.{List};
 ghost use lib.IntN.{ℤ};
 ghost use Rattle.settlement.specs.Values.{Lent};
 ghost use Rattle.element.specs.LinkDoc.{linkDoc};
-ghost use Rattle.means.specs.declared.Next.{Next};
+ghost use Rattle.report.specs.declared.cursor.Cursor.{Cursor};
 ghost use Rattle.kinds.specs.Kinds.{plainIs};
 ghost use Rattle.steps.specs.States.{state};
 ghost use Rattle.steps.specs.Steps.{Stepped};
@@ -25,7 +25,7 @@ pub fn plain_child(
     kind: PlainKind,
     c: usize,
 ) -> Plain
-    ensures { λ r. ⌜ ((L : Lent) (t : Tally) (b : Billing) (m : MaybeTotals) (n : Next) (h e u : List ℤ) → Stepped (plainIs kind) L (linkDoc (now (table .entry)) (now (text .entry)) (now (links .entry))) (now (text .entry)) c (state plain t b m n) (state r t b m n) h h e e u u) ⌝ }
+    ensures { λ r. ⌜ ((L : Lent) (t : Tally) (b : Billing) (m : MaybeTotals) (k : Cursor) (h e u : List ℤ) → Stepped (plainIs kind) L (linkDoc (now (table .entry)) (now (text .entry)) (now (links .entry))) (now (text .entry)) c (state plain t b m k) (state r t b m k) h h e e u u) ⌝ }
 {
     match kind {
         PlainKind::CreditorReference => Plain {

@@ -5,9 +5,9 @@ use groups::PaymentTerms;
 use groups::Period;
 use groups::PointCode;
 use groups::VatState;
-use means::Next;
 use payment::Means;
 use payment::Payment;
+use report::Cursor;
 use report::Day;
 use report::Text;
 use totals::Totals;
@@ -46,11 +46,10 @@ pub struct Plain {
     pub accounting: Text,
 }
 
-// What is kept of children that make rows: BT-7 and BT-8, and how many VAT breakdowns, allowances,
-// charges and preceding invoices there are.
+// What is kept of children that make rows: VAT so far, and how many allowances, charges and preceding invoices
+// there are.
 pub struct Tally {
     pub vat: VatState,
-    pub breakdowns: u32,
     pub allowances: u32,
     pub charges: u32,
     pub invoices: u32,
@@ -70,7 +69,7 @@ pub struct State {
     pub tally: Tally,
     pub billing: Billing,
     pub totals: MaybeTotals,
-    pub next: Next,
+    pub cursor: Cursor,
 }
 
 // Before the first child.
@@ -88,11 +87,11 @@ pub fn blank() -> State
         },
         tally: Tally {
             vat: VatState {
+                breakdowns: 0,
                 point: Day::Absent,
                 code: PointCode::Absent,
                 first: Text::Absent,
             },
-            breakdowns: 0,
             allowances: 0,
             charges: 0,
             invoices: 0,
@@ -112,10 +111,10 @@ pub fn blank() -> State
             },
         },
         totals: MaybeTotals::Absent,
-        next: Next {
-            held_at: 0,
-            at: 0,
-            count: 0,
+        cursor: Cursor {
+            held: 0,
+            entries: 0,
+            unmapped: 0,
         },
     }
 }

@@ -1,3 +1,3 @@
 pub mod Steps
-pub mod FirstKids
+pub mod Heard
 pub mod Walks

@@ -1,98 +1,74 @@
--- Laws of states one after the other.
-use mathlib.Core.Path.{_≡_, refl, subst}
-use mathlib.Core.Bool.{Bool, true, false, cond, _&&_}
-use mathlib.Core.List.{List, [], _∷_, _++_, append-nil}
-use mathlib.Core.Option.{Option, some}
+-- Laws of one child of a summation, after what was read before it.
+use mathlib.Core.Path.{_≡_, refl, ap, _∙_}
+use mathlib.Core.Bool.{Bool, true, false}
+use mathlib.Core.List.{List, _∷_, []}
+use mathlib.Core.Option.{Option, none, some}
 use Prim.Native.Nat.{ℕ}
 use lib.IntN.{ℤ}
-use Rattle.names.specs.declared.message.Message.the-variants as Message
-use Rattle.names.specs.declared.path.Path.the-variants as Path
-use Rattle.names.specs.declared.term.Term.the-variants as Term
-use Rattle.report.specs.Rows.{Place, Entry, Unmapped}
-use Rattle.report.specs.Values.{amountOf}
-use Rattle.report.specs.declared.value.Amount.{Amount}
+use Rattle.text.specs.Utf8.{bytes}
+use Rattle.names.specs.declared.parent.Parent.the-variants as Parent
+use Rattle.report.specs.Rows.{Place, Entry}
+use Rattle.report.specs.declared.cursor.Cursor.{Cursor}
 use Rattle.settlement.specs.Document.{Doc}
 use Rattle.settlement.specs.Shapes.{Currencies}
-use Rattle.settlement.specs.Summation.{Summing, withVat, isNone, isCurrency, taxIn}
-use Rattle.settlement.specs.Values.{Says, Site, site, entry}
+use Rattle.settlement.specs.Summation.{Summing, withVat, isCurrency, taxIn, taxTotalOf, sumOf, summand, summing}
+use Rattle.settlement.specs.Values.{Lent, attribute}
 use Rattle.values.specs.Told.{Said, Told}
-use Rattle.values.proofs.Telling.{said-none, said-then}
-use Rattle.money.specs.Amounts.{saying}
-use Rattle.money.specs.declared.heard.Heard.{Heard}
+use Rattle.values.proofs.Telling.{said-then}
+use Rattle.unmapped.specs.Acted.{Acted}
 use Rattle.unmapped.specs.Noting.{noting, Noted}
-use Rattle.unmapped.proofs.Notings.{notings-none, notings-one}
-use Rattle.totals.specs.State.{sumsOf, amounts, siteFor, setVat, setOptional, withOptional, unmapping, Summed, Did}
+use Rattle.unmapped.proofs.Notings.{notings-more}
+use Rattle.totals.specs.State.{sumIs}
+use Rattle.totals.specs.Reading.{taxesOf, taxes, made, taxing, taxed, saidBy, firstOf, Hears}
+use Rattle.totals.specs.declared.firsts.Firsts.{Firsts}
 use Rattle.totals.specs.declared.sum.Optional.{Optional}
 use Rattle.totals.specs.declared.sum.Optional.the-variants as Optional
-use Rattle.totals.specs.declared.state.Sums as Sums
-use Rattle.totals.specs.declared.state.Summing as State
+use Rattle.totals.specs.declared.sum.Sum.{Sum}
+use Rattle.totals.specs.declared.sum.Sum.the-variants as Sum
+use Rattle.totals.specs.declared.tax.Taxes.{Taxes}
 
--- an optional amount that was read
-optional-set : (q : Optional) (A : Says Place (Option ℤ)) (v : Amount) {s : State.Summing} {t : Sums.Sums} {e e′ : List ℤ} {at : ℕ} → Told A e (s .at) (amountOf v) e′ at → t ≡ setOptional q v (s .sums) → Summed (withOptional q A (sumsOf (s .sums))) s e (record { sums = t; at = at; count = s .count }) e′
-optional-set Optional.AllowanceTotal A v p q = record { same = rw (q, ← p .same); said = p .said; count = refl; mapped = refl }
-optional-set Optional.ChargeTotal A v p q = record { same = rw (q, ← p .same); said = p .said; count = refl; mapped = refl }
-optional-set Optional.Rounding A v p q = record { same = rw (q, ← p .same); said = p .said; count = refl; mapped = refl }
-optional-set Optional.Prepaid A v p q = record { same = rw (q, ← p .same); said = p .said; count = refl; mapped = refl }
+-- a state with the BT-110 and BT-111 of another, behind which that says what it says
+abbrev pub beside : Summing Place → Summing Place → Summing Place
+beside m t = withVat (t .vat) (t .vatAccounting) (t .says) m
 
--- the same of what was heard, told where the amount stands
-pub optional-told : (q : Optional) (h : Heard) (v : Amount) {y : Site} {s : State.Summing} {t : Sums.Sums} {e e′ : List ℤ} {at : ℕ} → y ≡ siteFor q → Told (saying h y) e (s .at) (amountOf v) e′ at → t ≡ setOptional q v (s .sums) → Summed (withOptional q (saying h (siteFor q)) (sumsOf (s .sums))) s e (record { sums = t; at = at; count = s .count }) e′
-optional-told q h v {s = s} {e = e} {e′ = e′} {at = at} i p r = optional-set q (saying h (siteFor q)) v {s = s} (subst (λ (z : Site). Told (saying h z) e (s .at) (amountOf v) e′ at) i p) r
-
--- a tax total's two terms
-pub taxed-summed : {s r : State.Summing} {v w : Amount} {es : List (Entry Place)} {e e′ : List ℤ} {at : ℕ} → r ≡ record { sums = setVat v w (s .sums); at = at; count = s .count } → Said es e (s .at) e′ at → Summed (withVat (amountOf v) (amountOf w) es (sumsOf (s .sums))) s e r e′
-unfolding withVat
-taxed-summed q p = rw q (record { same = refl; said = p; count = refl; mapped = refl })
-
--- a child that is read after all others
-pub did-none : (x : List ℕ) (s : State.Summing) (e u : List ℤ) → Did x (sumsOf (s .sums)) (s .at) (s .count) e u s e u
-did-none x s e u = record { same = refl; said = said-none e (s .at); noted = notings-none x u (s .count) }
-
--- a child that is read
-pub did-summed : (x : List ℕ) (u : List ℤ) {m : Summing Place} {s r : State.Summing} {e e′ : List ℤ} → Summed m s e r e′ → Did x m (s .at) (s .count) e u r e′ u
-did-summed x u {s = s} p = record { same = p .same; said = p .said; noted = rw (p .mapped, p .count) (notings-none x u (s .count)) }
-
--- a child that is unmapped
-pub did-noted : {x : List ℕ} {a : Unmapped Place} {s r : State.Summing} {e u u′ : List ℤ} → (r .sums ≡ s .sums) × (r .at ≡ s .at) × Noted (noting x u (s .count) a) u′ (r .count) → Did x (unmapping a (sumsOf (s .sums))) (s .at) (s .count) e u r e u′
-did-noted {x} {a} {s} {r} {e} {u} p = record { same = rw (p .0); said = rw (p .1) (said-none e (s .at)); noted = notings-one x u (s .count) a (p .2) }
-
--- a tax total without a currency
-pub tax-told : {A : Says Place (Option ℤ)} {s r : State.Summing} {v w : Amount} {e e′ : List ℤ} {at : ℕ} → Told A e (s .at) (amountOf v) e′ at → r ≡ record { sums = setVat v w (s .sums); at = at; count = s .count } → Summed (withVat (A .0) (amountOf w) (A .1) (sumsOf (s .sums))) s e r e′
-tax-told p q = rw (← p .same) (taxed-summed q (p .said))
-
--- entries before those of a state
-abbrev preceded : List (Entry Place) → Summing Place → Summing Place
-preceded es m = record { allowance = m .allowance; charge = m .charge; vat = m .vat; vatAccounting = m .vatAccounting; rounded = m .rounded; paid = m .paid; says = es ++ m .says; strays = m .strays }
-
--- a state after another
-abbrev pub over : Summing Place → Summing Place → Summing Place
-over a b = record { allowance = b .allowance; charge = b .charge; vat = b .vat; vatAccounting = b .vatAccounting; rounded = b .rounded; paid = b .paid; says = a .says ++ b .says; strays = a .strays ++ b .strays }
-
-module _ (D : Doc ℕ Place) (cur : Currencies Place) where
-  -- what was said of a tax total comes before what is said of its currency
-  tax-says : (v : Option ℤ) (es : List (Entry Place)) (t : Sums.Sums) (id : Place) → taxIn D cur v es (sumsOf t) id ≡ preceded es (taxIn D cur v [] (sumsOf t) id)
+module _ (L : Lent) (D : Doc ℕ Place) (cur : Currencies Place) where
+  in-beside : (p q : Bool) (a : Option ℤ) (es : List (Entry Place)) (m : Summing Place) (id : Place) → isCurrency D (cur .bt6) id ≡ p → isCurrency D (cur .bt5) id ≡ q → taxIn D cur a es m id ≡ beside m (taxIn D cur a es (taxing (taxes m)) id)
   unfolding taxIn withVat
-  tax-says v es t id = go (isCurrency D (cur .bt6) id) (isCurrency D (cur .bt5) id)
-    where
-      go : (p q : Bool) → cond p (withVat (cond (q && isNone (amountOf (t .vat))) v (amountOf (t .vat))) v es (sumsOf t)) (cond q (withVat v (amountOf (t .accounting)) es (sumsOf t)) (withVat (amountOf (t .vat)) (amountOf (t .accounting)) (es ++ (entry Message.TaxTotalCurrency (site Path.SummationTaxTotalAmount Term.Bt110) (some id) ∷ [])) (sumsOf t))) ≡ preceded es (cond p (withVat (cond (q && isNone (amountOf (t .vat))) v (amountOf (t .vat))) v [] (sumsOf t)) (cond q (withVat v (amountOf (t .accounting)) [] (sumsOf t)) (withVat (amountOf (t .vat)) (amountOf (t .accounting)) ([] ++ (entry Message.TaxTotalCurrency (site Path.SummationTaxTotalAmount Term.Bt110) (some id) ∷ [])) (sumsOf t))))
-      go true q = rw (append-nil es)
-      go false true = rw (append-nil es)
-      go false false = refl
+  in-beside true q a es m id e f = rw (e, f)
+  in-beside false true a es m id e f = rw (e, f)
+  in-beside false false a es m id e f = rw (e, f)
 
-  preceded-summed : {m : Summing Place} {s r : State.Summing} {es : List (Entry Place)} {e e′ e″ : List ℤ} {at : ℕ} → Said es e (s .at) e′ at → Summed m (record { sums = s .sums; at = at; count = s .count }) e′ r e″ → Summed (preceded es m) s e r e″
-  preceded-summed p q = record { same = q .same; said = said-then p (q .said); count = q .count; mapped = q .mapped }
+  total-beside : (o : Option Place) (m : Summing Place) (c : ℕ) → attribute D c (bytes "currencyID") ≡ o → taxTotalOf L D cur m c ≡ beside m (taxTotalOf L D cur (taxing (taxes m)) c)
+  unfolding taxTotalOf withVat
+  total-beside none m c e = rw e
+  total-beside (some id) m c e = rw e (in-beside _ _ _ _ m id refl refl)
 
-  -- a tax total in a currency
-  pub tax-after : (id : Place) {A : Says Place (Option ℤ)} {v : Option ℤ} {s t r : State.Summing} {e e′ e″ : List ℤ} {at : ℕ} → Told A e (s .at) v e′ at → t ≡ record { sums = setVat (s .sums .vat) (s .sums .accounting) (s .sums); at = at; count = s .count } → Summed (taxIn D cur v [] (sumsOf (t .sums)) id) t e′ r e″ → Summed (taxIn D cur (A .0) (A .1) (sumsOf (s .sums)) id) s e r e″
-  tax-after id {A} {v} {s} {t} {r} {e} {e′} {e″} {at} p q w =
-      let z : Summed (taxIn D cur v [] (sumsOf (s .sums)) id) (record { sums = s .sums; at = at; count = s .count }) e′ r e″ = subst (λ (k : State.Summing). Summed (taxIn D cur v [] (sumsOf (k .sums)) id) k e′ r e″) q w in
-      rw (← p .same, tax-says v (A .1) (s .sums) id) (preceded-summed (p .said) z)
+  -- a tax total goes by BT-110 and BT-111 alone
+  pub tax-beside : (m : Summing Place) (c : ℕ) → taxTotalOf L D cur m c ≡ beside m (taxTotalOf L D cur (taxing (taxes m)) c)
+  tax-beside m c = total-beside _ m c refl
 
-  -- a tax total after what was read before it
-  pub tax-over : (v : Option ℤ) (es : List (Entry Place)) (m : Summing Place) (id : Place) → taxIn D cur v es m id ≡ over m (taxIn D cur v es (amounts m) id)
-  unfolding taxIn withVat
-  tax-over v es m id = go (isCurrency D (cur .bt6) id) (isCurrency D (cur .bt5) id)
-    where
-      go : (p q : Bool) → cond p (withVat (cond (q && isNone (m .vat)) v (m .vat)) v es m) (cond q (withVat v (m .vatAccounting) es m) (withVat (m .vat) (m .vatAccounting) (es ++ (entry Message.TaxTotalCurrency (site Path.SummationTaxTotalAmount Term.Bt110) (some id) ∷ [])) m)) ≡ over m (cond p (withVat (cond (q && isNone (m .vat)) v (m .vat)) v es (amounts m)) (cond q (withVat v (m .vatAccounting) es (amounts m)) (withVat (m .vat) (m .vatAccounting) (es ++ (entry Message.TaxTotalCurrency (site Path.SummationTaxTotalAmount Term.Bt110) (some id) ∷ [])) (amounts m))))
-      go true q = rw (append-nil (m .strays))
-      go false true = rw (append-nil (m .strays))
-      go false false = rw (append-nil (m .strays))
+module _ (L : Lent) (D : Doc ℕ Place) (cur : Currencies Place) (n c : ℕ) (m : Summing Place) {x : List ℕ} {p : Option ℤ × Option ℤ} {b at : Cursor} {h e₀ e u₀ u : List ℤ} (a : Acted (made taxes m) x p b at h h e₀ e u₀ u) where
+  -- one that is read after all others
+  pub required-step : {j : Sum} → j ≡ Sum.Required → sumIs j ≡ sumOf D c → Acted (made taxes (summing L D cur n m c)) x p b at h h e₀ e u₀ u
+  unfolding summing summand
+  required-step q k = rw (← k, q) a
+
+  -- an optional amount
+  pub optional-step : {f : Firsts} (q : Optional) {j : Sum} {e′ : List ℤ} {r : ℕ} → j ≡ Sum.Optional q → sumIs j ≡ sumOf D c → Hears (L .mode) (L .currency) D n f → Said (saidBy (firstOf f q) .1) e (at .entries) e′ r → Acted (made taxes (summing L D cur n m c)) x p b (record { held = at .held; entries = r; unmapped = at .unmapped }) h h e₀ e′ u₀ u
+  unfolding summing summand
+  optional-step Optional.AllowanceTotal q k w s = rw (← k, q, ← w .allowance) (record { same = a .same; held = a .held; said = said-then (a .said) s; noted = a .noted })
+  optional-step Optional.ChargeTotal q k w s = rw (← k, q, ← w .charge) (record { same = a .same; held = a .held; said = said-then (a .said) s; noted = a .noted })
+  optional-step Optional.Rounding q k w s = rw (← k, q, ← w .rounding) (record { same = a .same; held = a .held; said = said-then (a .said) s; noted = a .noted })
+  optional-step Optional.Prepaid q k w s = rw (← k, q, ← w .paid) (record { same = a .same; held = a .held; said = said-then (a .said) s; noted = a .noted })
+
+  -- a tax total
+  pub tax-step : {j : Sum} {p′ : Option ℤ × Option ℤ} {e′ : List ℤ} {r : ℕ} → j ≡ Sum.TaxTotal → sumIs j ≡ sumOf D c → Told (taxed (taxTotalOf L D cur (taxing p) c)) e (at .entries) p′ e′ r → Acted (made taxes (summing L D cur n m c)) x p′ b (record { held = at .held; entries = r; unmapped = at .unmapped }) h h e₀ e′ u₀ u
+  unfolding summing summand withVat
+  tax-step q k s =
+      let s′ = rw (a .same) at s in
+      rw (← k, q, tax-beside L D cur m c) (record { same = s′ .same; held = a .held; said = said-then (a .said) (s′ .said); noted = a .noted })
+
+  -- one that is not mapped
+  pub unread-step : {j : Sum} {u′ : List ℤ} {r : ℕ} → j ≡ Sum.Unread → sumIs j ≡ sumOf D c → Noted (noting x u (at .unmapped) (record { parent = Parent.MonetarySummation; name = D .name c })) u′ r → Acted (made taxes (summing L D cur n m c)) x p b (record { held = at .held; entries = at .entries; unmapped = r }) h h e₀ e u₀ u′
+  unfolding summing summand
+  unread-step q k s = rw (← k, q) (record { same = a .same; held = a .held; said = a .said; noted = notings-more x u₀ (b .unmapped) (m .strays) _ (a .noted) s })

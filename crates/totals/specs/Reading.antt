@@ -1,32 +1,35 @@
--- What a reading of a summation did.
+-- What the code's values mean, and what a reading of a summation's children makes.
 use mathlib.Core.Path.{_≡_}
-use mathlib.Core.List.{List, _++_}
+use mathlib.Core.List.{List, []}
+use mathlib.Core.Option.{Option, none}
 use Prim.Native.Nat.{ℕ}
 use lib.IntN.{ℤ}
 use Rattle.text.specs.Utf8.{bytes}
-use Rattle.codes.specs.declared.rules.Rule.{Rule}
-use Rattle.codes.specs.declared.rules.Rule.the-variants as Rule
-use Rattle.names.specs.declared.path.Path.{Path}
 use Rattle.names.specs.declared.path.Path.the-variants as Path
-use Rattle.names.specs.declared.term.Term.{Term}
 use Rattle.names.specs.declared.term.Term.the-variants as Term
-use Rattle.report.specs.Rows.{Place, Entry}
+use Rattle.report.specs.Rows.{Place}
 use Rattle.report.specs.Values.{textOf, amountOf}
-use Rattle.report.specs.declared.value.Text.{Text}
 use Rattle.settlement.specs.Document.{Doc}
-use Rattle.settlement.specs.Shapes.{Totals, Currencies}
+use Rattle.settlement.specs.Shapes.{Totals, Currencies, Act}
 use Rattle.settlement.specs.Summation.{Summing}
-use Rattle.settlement.specs.Values.{Lent, Says, site, requiredAmount}
-use Rattle.values.specs.Told.{Said}
-use Rattle.totals.specs.declared.state.Totals as Code
-use Rattle.totals.specs.declared.state.TotalsSaid as CodeSaid
+use Rattle.settlement.specs.Values.{Says, site, amount}
+use Rattle.amounts.specs.Amounts.{saying}
+use Rattle.values.specs.Sites.{siteOf}
+use Rattle.totals.specs.declared.firsts.First.{First}
+use Rattle.totals.specs.declared.firsts.Firsts.{Firsts}
+use Rattle.totals.specs.declared.state.Currencies as CodeCurrencies
+use Rattle.totals.specs.declared.state.Sums as Code
+use Rattle.totals.specs.declared.state.Totals as CodeTotals
+use Rattle.totals.specs.declared.sum.Optional.{Optional}
+use Rattle.totals.specs.declared.sum.Optional.the-variants as Optional
+use Rattle.totals.specs.declared.tax.Taxes.{Taxes}
 
 -- BT-5 and BT-6 as read so far
-abbrev pub currencies : Text → Text → Currencies Place
-currencies bt5 bt6 = record { bt5 = textOf bt5; bt6 = textOf bt6 }
+abbrev pub currencies : CodeCurrencies.Currencies → Currencies Place
+currencies c = record { bt5 = textOf (c .bt5); bt6 = textOf (c .bt6) }
 
 -- BG-22
-abbrev pub totalsOf : Code.Totals → Totals
+abbrev pub totalsOf : CodeTotals.Totals → Totals
 totalsOf t =
     record {
       line = t .line .0;
@@ -41,33 +44,45 @@ totalsOf t =
       due = t .due .0;
     }
 
-module _ (L : Lent) (D : Doc ℕ Place) (n : ℕ) where
-  -- a required amount of a summation
-  abbrev pub due : Rule → Path → Term → List ℕ → Says Place ℤ
-  due r p t w = requiredAmount L D r Path.SettlementSummation (site p t) n w
+-- BT-110 and BT-111, of the code and of a state
+abbrev pub taxesOf : Taxes → Option ℤ × Option ℤ
+taxesOf t = (amountOf (t .vat), amountOf (t .accounting))
 
-  abbrev pub lineTotal : Says Place ℤ
-  lineTotal = due Rule.Br12 Path.SummationLineTotalAmount Term.Bt106 (bytes "LineTotalAmount")
+abbrev pub taxes : Summing Place → Option ℤ × Option ℤ
+taxes m = (m .vat, m .vatAccounting)
 
-  abbrev pub taxBasisTotal : Says Place ℤ
-  taxBasisTotal = due Rule.Br13 Path.SummationTaxBasisTotalAmount Term.Bt109 (bytes "TaxBasisTotalAmount")
+-- all amounts that may be absent, too
+abbrev pub sumsOf : Code.Sums → Option ℤ × Option ℤ × Option ℤ × Option ℤ × Option ℤ × Option ℤ
+sumsOf s = (amountOf (s .allowance), amountOf (s .charge), amountOf (s .vat), amountOf (s .accounting), amountOf (s .paid), amountOf (s .rounding))
 
-  abbrev pub grandTotal : Says Place ℤ
-  grandTotal = due Rule.Br14 Path.SummationGrandTotalAmount Term.Bt112 (bytes "GrandTotalAmount")
+abbrev pub amounts : Summing Place → Option ℤ × Option ℤ × Option ℤ × Option ℤ × Option ℤ × Option ℤ
+amounts m = (m .allowance, m .charge, m .vat, m .vatAccounting, m .paid, m .rounded)
 
-  abbrev pub duePayable : Says Place ℤ
-  duePayable = due Rule.Br15 Path.SummationDuePayableAmount Term.Bt115 (bytes "DuePayableAmount")
+-- what a state holds of the amounts, with what it says and does not map
+abbrev pub made : {A : Type 0} → (Summing Place → A) → Summing Place → Act Place A
+made f m = record { next = f m; says = m .says; holds = []; strays = m .strays }
 
-  -- the totals of the amounts that were read from the children, with the required amounts
-  abbrev pub totalled : Summing Place → Totals
-  totalled s = record { line = lineTotal .0; allowance = s .allowance; charge = s .charge; taxable = taxBasisTotal .0; vat = s .vat; vatAccounting = s .vatAccounting; gross = grandTotal .0; paid = s .paid; rounding = s .rounded; due = duePayable .0 }
+-- a state that holds BT-110 and BT-111 alone, and what such a state became
+abbrev pub taxing : Option ℤ × Option ℤ → Summing Place
+taxing t = record { allowance = none; charge = none; vat = t .0; vatAccounting = t .1; rounded = none; paid = none; says = []; strays = [] }
 
-  -- what is said of the required amounts
-  abbrev pub duesSaid : List (Entry Place)
-  duesSaid = lineTotal .1 ++ (taxBasisTotal .1 ++ (grandTotal .1 ++ duePayable .1))
+abbrev pub taxed : Summing Place → Says Place (Option ℤ × Option ℤ)
+taxed m = (taxes m, m .says)
 
--- the totals are those, the entries were put, and the count is still the same
-pub record Ended (t : Totals) (es : List (Entry Place)) (at count : ℕ) (entries : List ℤ) (r : CodeSaid.TotalsSaid) (entries′ : List ℤ) : Type 0 where
-  pub same : totalsOf (r .totals) ≡ t
-  pub said : Said es entries at entries′ (r .at)
-  pub count′ : r .count ≡ count
+-- what the first child of a name says
+abbrev pub saidBy : First → Says Place (Option ℤ)
+saidBy f = saying (f .heard) (siteOf (f .site))
+
+-- of an optional amount's name
+abbrev pub firstOf : Firsts → Optional → First
+firstOf f Optional.AllowanceTotal = f .allowance
+firstOf f Optional.ChargeTotal = f .charge
+firstOf f Optional.Rounding = f .rounding
+firstOf f Optional.Prepaid = f .paid
+
+-- what the first child of each such name of a summation n says was heard
+pub record Hears (mode : ℕ) (currency : List ℕ) (D : Doc ℕ Place) (n : ℕ) (f : Firsts) : Type 0 where
+  pub allowance : saidBy (f .allowance) ≡ amount mode currency D (site Path.SummationAllowanceTotalAmount Term.Bt107) n (bytes "AllowanceTotalAmount")
+  pub charge : saidBy (f .charge) ≡ amount mode currency D (site Path.SummationChargeTotalAmount Term.Bt108) n (bytes "ChargeTotalAmount")
+  pub rounding : saidBy (f .rounding) ≡ amount mode currency D (site Path.SummationRoundingAmount Term.Bt114) n (bytes "RoundingAmount")
+  pub paid : saidBy (f .paid) ≡ amount mode currency D (site Path.SummationTotalPrepaidAmount Term.Bt113) n (bytes "TotalPrepaidAmount")

@@ -6,15 +6,14 @@
 // apart by the currencies read so far, BT-5 and BT-6, and not by the currency that is lent. A document
 // is lent as a table, its text and its links (crate `element`). No public function has a `requires`,
 // and the crate assumes nothing of its own.
-mod children;
 mod firsts;
-mod optional;
-mod required;
 mod state;
 mod sum;
+mod summands;
 mod summation;
 mod tax;
 
+pub use state::Currencies;
 pub use state::Sums;
 pub use state::Totals;
 pub use state::TotalsSaid;

@@ -1,9 +1,9 @@
-// What a summation holds, and the state of a reading of its children.
-ghost use mathlib.Core.Path.{_≡_};
-ghost use Rattle.totals.specs.State.{setVat};
+// What a summation holds, and what its children are read by.
 use amount::InvoiceAmount;
 use report::Amount;
+use report::Cursor;
 use report::Text;
+use values::Lent;
 
 // The amounts that may be absent: BT-107, BT-108, BT-110, BT-111, BT-113 and BT-114.
 pub struct Sums {
@@ -24,36 +24,21 @@ pub struct Totals {
     pub sums: Sums,
 }
 
-// Totals, where the next entry goes, and how many unmapped elements there are.
+// Totals, and where the next rows go.
 pub struct TotalsSaid {
     pub totals: Totals,
-    pub at: usize,
-    pub count: usize,
+    pub cursor: Cursor,
 }
 
-// The amounts so far, where the next entry goes, and how many unmapped elements there are.
-pub(crate) struct Summing {
-    pub(crate) sums: Sums,
-    pub(crate) at: usize,
-    pub(crate) count: usize,
+// BT-5 and BT-6 as read so far.
+pub struct Currencies {
+    pub bt5: Text,
+    pub bt6: Text,
 }
 
-// What stays the same while the children of a summation are read: the mode, BT-5 and BT-6 as read so
-// far, and the summation n.
+// What the children of a summation n are read by.
 pub(crate) struct Frame {
-    pub(crate) mode: u32,
-    pub(crate) bt5: Text,
-    pub(crate) bt6: Text,
+    pub(crate) lent: Lent,
+    pub(crate) read: Currencies,
     pub(crate) n: usize,
-}
-
-// The amounts with BT-110 and BT-111 set.
-pub(crate) fn with_vat(s: Sums, vat: Amount, accounting: Amount) -> Sums
-    ensures { λ r. ⌜ r ≡ setVat vat accounting s ⌝ }
-{
-    Sums {
-        vat,
-        accounting,
-        ..s
-    }
 }

@@ -1,27 +1,40 @@
 // Tax totals: BT-110 and BT-111.
 ghost use mathlib.Core.Path.{_≡_};
 ghost use mathlib.Core.Bool.{cond, _&&_};
-ghost use mathlib.Core.List.{[]};
+ghost use mathlib.Core.List.{List};
+ghost use Prim.Native.Nat.{ℕ};
+ghost use lib.IntN.{ℤ};
+ghost use Rattle.report.specs.Rows as rows;
 ghost use Rattle.report.specs.Values.{placeOf, textOf, amountOf};
 ghost use Rattle.settlement.specs.Summation.{isNone, isCurrency, taxIn, taxTotalOf};
 ghost use Rattle.element.specs.LinkDoc.{linkDoc};
 ghost use Rattle.values.specs.Sites.{lentOf};
-ghost use Rattle.totals.specs.State.{sumsOf, setVat, Summed};
-ghost use Rattle.totals.specs.Reading.{currencies};
-use crate::state::Summing;
-use crate::state::with_vat;
+ghost use Rattle.values.specs.Told.{Said, Told};
+ghost use Rattle.totals.specs.Reading.{currencies, taxesOf, taxing, taxed};
+use crate::state::Currencies;
 use names::Message;
 use names::Path;
 use names::Term;
 use report::Amount;
-use report::Index;
 use report::Place;
 use report::Text;
-use values::Site;
+use values::Lent;
+
+// BT-110 and BT-111.
+pub(crate) struct Taxes {
+    pub(crate) vat: Amount,
+    pub(crate) accounting: Amount,
+}
+
+// The two, and where the next entry goes.
+pub(crate) struct TaxesSaid {
+    pub(crate) taxes: Taxes,
+    pub(crate) at: usize,
+}
 
 // Whether a currency was read and is this.
-fn is_currency(table: &[u32], text: &[u8], links: &[u16], read: Text, id: Place) -> bool
-    ensures { λ r. ⌜ r ≡ isCurrency (linkDoc (now (table .entry)) (now (text .entry)) (now (links .entry))) (textOf read) (placeOf id) ⌝ }
+fn is_currency(text: &[u8], read: Text, id: Place) -> bool
+    ensures { λ r. ⌜ ((table links : List ℕ) → r ≡ isCurrency (linkDoc table (now (text .entry)) links) (textOf read) (placeOf id)) ⌝ }
 {
     match read {
         Text::Absent => false,
@@ -43,77 +56,74 @@ fn vat_beside(both: bool, held: Amount, read: Amount) -> Amount
     }
 }
 
-// The state with a tax total's two terms and the place of the next entry.
-fn taxed(s: Summing, vat: Amount, accounting: Amount, at: usize) -> Summing
-    ensures { λ r. ⌜ r ≡ record { sums = setVat vat accounting (s .sums); at = at; count = s .count } ⌝ }
-{
-    Summing {
-        sums: with_vat(s.sums, vat, accounting),
-        at,
-        count: s.count,
-    }
-}
-
-// The state after a tax total of an amount in a currency: BT-111 in BT-6, BT-110 in BT-5; one in
-// neither is said.
+// The two after a tax total of an amount in a currency: BT-111 in BT-6, BT-110 in BT-5; one in neither is said,
+// behind what was said before.
 fn tax_in(
-    table: &[u32],
     text: &[u8],
-    links: &[u16],
     entries: &mut [i64],
-    bt5: Text,
-    bt6: Text,
-    s: Summing,
-    read: Amount,
+    at: usize,
+    read: Currencies,
+    taxes: Taxes,
+    amount: Amount,
     id: Place,
-) -> Summing
-    ensures { λ r. ⌜ Summed (taxIn (linkDoc (now (table .entry)) (now (text .entry)) (now (links .entry))) (currencies bt5 bt6) (amountOf read) [] (sumsOf (s .sums)) (placeOf id)) s (now (entries .entry)) r (now (entries .exit)) ⌝ }
+) -> TaxesSaid
+    ensures { λ r. ⌜ ((table links : List ℕ) (es : List (rows.Entry rows.Place)) (e : List ℤ) (a : ℕ) → Said es e a (now (entries .entry)) at → Told (taxed (taxIn (linkDoc table (now (text .entry)) links) (currencies read) (amountOf amount) es (taxing (taxesOf taxes)) (placeOf id))) e a (taxesOf (r .taxes)) (now (entries .exit)) (r .at)) ⌝ }
 {
-    let at = s.at;
-    let sums = s.sums;
-    let vat = sums.vat;
-    let accounting = sums.accounting;
-    let is_vat = is_currency(table, text, links, bt5, id);
-    if is_currency(table, text, links, bt6, id) {
-        return taxed(s, vat_beside(is_vat, vat, read), read, at);
+    let bt5 = read.bt5;
+    let bt6 = read.bt6;
+    let vat = taxes.vat;
+    let is_vat = is_currency(text, bt5, id);
+    if is_currency(text, bt6, id) {
+        return TaxesSaid {
+            taxes: Taxes {
+                vat: vat_beside(is_vat, vat, amount),
+                accounting: amount,
+            },
+            at,
+        };
     }
     if is_vat {
-        return taxed(s, read, accounting, at);
+        return TaxesSaid {
+            taxes: Taxes {
+                vat: amount,
+                ..taxes
+            },
+            at,
+        };
     }
-    let site = Site {
-        path: Path::SummationTaxTotalAmount,
-        term: Term::Bt110,
-        index: Index::Absent,
-    };
-    let next = values::say(entries, at, Message::TaxTotalCurrency, site, Text::At(id));
-    taxed(s, vat, accounting, next)
+    let site = values::site(Path::SummationTaxTotalAmount, Term::Bt110);
+    let message = Message::TaxTotalCurrency;
+    TaxesSaid {
+        taxes,
+        at: values::say(entries, at, message, site, Text::At(id)),
+    }
 }
 
-// The state after child c, a tax total: BT-110 where it has no currencyID.
+// The two after child c, a tax total: BT-110 where it has no currencyID.
 pub(crate) fn tax_total(
     table: &[u32],
     text: &[u8],
     links: &[u16],
-    mode: u32,
+    lent: Lent,
     entries: &mut [i64],
-    bt5: Text,
-    bt6: Text,
-    s: Summing,
+    at: usize,
+    read: Currencies,
+    taxes: Taxes,
     c: usize,
-) -> Summing
-    ensures { λ r. ⌜ Summed (taxTotalOf (lentOf mode 0 []) (linkDoc (now (table .entry)) (now (text .entry)) (now (links .entry))) (currencies bt5 bt6) (sumsOf (s .sums)) c) s (now (entries .entry)) r (now (entries .exit)) ⌝ }
+) -> TaxesSaid
+    ensures { λ r. ⌜ ((currency : List ℕ) → Told (taxed (taxTotalOf (lentOf lent currency) (linkDoc (now (table .entry)) (now (text .entry)) (now (links .entry))) (currencies read) (taxing (taxesOf taxes)) c)) (now (entries .entry)) at (taxesOf (r .taxes)) (now (entries .exit)) (r .at)) ⌝ }
 {
-    let sums = s.sums;
-    let vat = sums.vat;
-    let accounting = sums.accounting;
-    let at = s.at;
-    let read = money::tax_amount(table, text, links, mode, entries, at, c);
-    let amount = read.amount;
-    let next = read.at;
-    let after = taxed(s, vat, accounting, next);
+    let said = amounts::tax_amount(table, text, links, lent.mode, entries, at, c);
+    let amount = said.amount;
     let id = element::attribute(table, text, links, c, b"currencyID");
     match id {
-        Text::Absent => taxed(s, amount, accounting, next),
-        Text::At(p) => tax_in(table, text, links, entries, bt5, bt6, after, amount, p),
+        Text::Absent => TaxesSaid {
+            taxes: Taxes {
+                vat: amount,
+                ..taxes
+            },
+            at: said.at,
+        },
+        Text::At(p) => tax_in(text, entries, said.at, read, taxes, amount, p),
     }
 }

@@ -34,6 +34,10 @@ told-silent l at = record { same = refl; said = said-none l at }
 pub told-said : {A : Type 0} {v : A} {es : List (Entry Place)} {l l′ : List ℤ} {at r : ℕ} → Said es l at l′ r → Told (v, es) l at v l′ r
 told-said p = record { same = refl; said = p }
 
+-- of two readings that are the same
+pub told-as : {A : Type 0} {s s′ : Says Place A} {l l′ : List ℤ} {at r : ℕ} {v : A} → s ≡ s′ → Told s l at v l′ r → Told s′ l at v l′ r
+told-as e p = rw (← e) p
+
 -- a required amount: 0 where it failed
 pub told-or-zero : {s : Says Place (Option ℤ)} {l l′ : List ℤ} {at r : ℕ} {v : Option ℤ} {z : ℤ} → Told s l at v l′ r → z ≡ or (pos 0) v → Told (or (pos 0) (s .0), s .1) l at z l′ r
 told-or-zero p e = record { same = e ∙ ap (or (pos 0)) (p .same); said = p .said }

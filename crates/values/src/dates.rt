@@ -7,9 +7,11 @@ ghost use Rattle.report.specs.Values.{placeOf, textOf, dayOf};
 ghost use Rattle.settlement.specs.Document.{maybe};
 ghost use Rattle.settlement.specs.TableDoc.{shows};
 ghost use Rattle.settlement.specs.Values as reading;
+ghost use Rattle.table.specs.Table.{found};
 ghost use Rattle.element.specs.LinkDoc.{linkDoc};
-ghost use Rattle.values.specs.Sites.{siteOf, dayAt, dateAt, spelling};
+ghost use Rattle.values.specs.Sites.{siteOf, dayAt, dateAt, spelling, dateOf};
 ghost use Rattle.values.specs.Told.{Told};
+use crate::locating;
 use crate::saying::Site;
 use crate::saying::say;
 use date::ParsedDate;
@@ -17,9 +19,16 @@ use names::Message;
 use names::Path;
 use names::Term;
 use report::Day;
-use report::Index;
 use report::Place;
 use report::Text;
+
+// How a date is spelled: whether it is a tax point, which is a DateString, as no other date is, and the paths of
+// its DateTimeString and DateString.
+pub struct DatePaths {
+    pub point: bool,
+    pub time: Path,
+    pub day: Path,
+}
 
 // A date, and where the next entry goes.
 pub struct DateSaid {
@@ -90,11 +99,7 @@ fn date_from(
 ) -> DateSaid
     ensures { λ r. ⌜ Told (dateAt (linkDoc (now (table .entry)) (now (text .entry)) (now (links .entry))) (now (text .entry)) path e (placeOf own)) (now (entries .entry)) at (dayOf (r .day)) (now (entries .exit)) (r .at) ⌝ }
 {
-    let site = Site {
-        path,
-        term: Term::None,
-        index: Index::Absent,
-    };
+    let site = locating::site(path, Term::None);
     let format = element::attribute_text(table, text, links, e, b"format");
     if is_right_format(text, format) {
         return parsed(text, entries, at, site, own);
@@ -121,19 +126,14 @@ fn spelled(
 {
     let own = element::own_text(table, text, links, mode, e);
     if other {
-        let site = Site {
-            path,
-            term: Term::None,
-            index: Index::Absent,
-        };
+        let site = locating::site(path, Term::None);
         let next = say(entries, at, Message::OtherDateElement, site, Text::At(own));
         return date_from(table, text, links, entries, next, path, e, own);
     }
     date_from(table, text, links, entries, at, path, e, own)
 }
 
-// The date in element w: DateTimeString, else DateString. A tax point is a DateString, every other
-// date a DateTimeString; the other spelling is said.
+// The date in element w: DateTimeString, else DateString; the other spelling is said.
 fn date_in(
     table: &[u32],
     text: &[u8],
@@ -141,13 +141,14 @@ fn date_in(
     mode: u32,
     entries: &mut [i64],
     at: usize,
-    point: bool,
-    time: Path,
-    day: Path,
+    paths: DatePaths,
     w: usize,
 ) -> DateSaid
-    ensures { λ r. ⌜ Told (reading.dateIn mode (linkDoc (now (table .entry)) (now (text .entry)) (now (links .entry))) point time day w) (now (entries .entry)) at (dayOf (r .day)) (now (entries .exit)) (r .at) ⌝ }
+    ensures { λ r. ⌜ Told (reading.dateIn mode (linkDoc (now (table .entry)) (now (text .entry)) (now (links .entry))) (paths .point) (paths .time) (paths .day) w) (now (entries .entry)) at (dayOf (r .day)) (now (entries .exit)) (r .at) ⌝ }
 {
+    let point = paths.point;
+    let time = paths.time;
+    let day = paths.day;
     let e = element::kid(table, text, links, w, b"DateTimeString");
     if e == 0 {
         let d = element::kid(table, text, links, w, b"DateString");
@@ -157,15 +158,12 @@ fn date_in(
                 at,
             };
         }
-        if point {
-            return spelled(table, text, links, mode, entries, at, false, day, d);
-        }
-        return spelled(table, text, links, mode, entries, at, true, day, d);
+        return spelled(table, text, links, mode, entries, at, !point, day, d);
     }
     spelled(table, text, links, mode, entries, at, point, time, e)
 }
 
-// The date in the first child of a name of element n, absent where there is none.
+// The date in a child w that was looked for, absent where there is none.
 pub fn date(
     table: &[u32],
     text: &[u8],
@@ -173,20 +171,16 @@ pub fn date(
     mode: u32,
     entries: &mut [i64],
     at: usize,
-    point: bool,
-    time: Path,
-    day: Path,
-    n: usize,
-    want: &[u8],
+    paths: DatePaths,
+    w: usize,
 ) -> DateSaid
-    ensures { λ r. ⌜ Told (reading.date mode (linkDoc (now (table .entry)) (now (text .entry)) (now (links .entry))) point time day n (now (want .entry))) (now (entries .entry)) at (dayOf (r .day)) (now (entries .exit)) (r .at) ⌝ }
+    ensures { λ r. ⌜ Told (dateOf mode (linkDoc (now (table .entry)) (now (text .entry)) (now (links .entry))) paths (found w)) (now (entries .entry)) at (dayOf (r .day)) (now (entries .exit)) (r .at) ⌝ }
 {
-    let w = element::kid(table, text, links, n, want);
     if w == 0 {
         return DateSaid {
             day: Day::Absent,
             at,
         };
     }
-    date_in(table, text, links, mode, entries, at, point, time, day, w)
+    date_in(table, text, links, mode, entries, at, paths, w)
 }

@@ -28,3 +28,10 @@ pub fn grouped(path: Path, term: Term, index: u32) -> Site
         index: Index::At(index),
     }
 }
+
+// The same term and group at another path.
+pub fn moved(site: Site, path: Path) -> Site
+    ensures { λ r. ⌜ siteOf r ≡ record { path = path; term = siteOf site .term; index = siteOf site .index } ⌝ }
+{
+    Site { path, ..site }
+}

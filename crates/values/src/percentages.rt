@@ -1,10 +1,9 @@
 // Percentages.
 ghost use mathlib.Core.Path.{_≡_};
 ghost use Rattle.amount.specs.Answers.{percentageAnswer};
-ghost use Rattle.report.specs.Values.{placeOf, percentOf};
+ghost use Rattle.report.specs.Values.{placeOf, textOf, percentOf};
 ghost use Rattle.settlement.specs.Values as reading;
-ghost use Rattle.element.specs.LinkDoc.{linkDoc};
-ghost use Rattle.values.specs.Sites.{siteOf, percentAt};
+ghost use Rattle.values.specs.Sites.{siteOf, percentAt, percentIn};
 ghost use Rattle.values.specs.Told.{Told};
 use crate::saying::Site;
 use crate::saying::say;
@@ -61,20 +60,16 @@ fn parsed(text: &[u8], entries: &mut [i64], at: usize, site: Site, own: Place) -
     }
 }
 
-// The percentage of element e, absent where it has no text.
-fn percent_of(
-    table: &[u32],
+// The percentage that the text of a child spells, absent where there is none.
+pub fn percent(
     text: &[u8],
-    links: &[u16],
-    mode: u32,
     entries: &mut [i64],
     at: usize,
     site: Site,
-    e: usize,
+    content: Text,
 ) -> PercentSaid
-    ensures { λ r. ⌜ Told (reading.percentOf mode (linkDoc (now (table .entry)) (now (text .entry)) (now (links .entry))) (siteOf site) e) (now (entries .entry)) at (percentOf (r .percent)) (now (entries .exit)) (r .at) ⌝ }
+    ensures { λ r. ⌜ Told (percentIn (now (text .entry)) (siteOf site) (textOf content)) (now (entries .entry)) at (percentOf (r .percent)) (now (entries .exit)) (r .at) ⌝ }
 {
-    let content = element::text_in(table, text, links, mode, e);
     match content {
         Text::Absent => PercentSaid {
             percent: Percent::Absent,
@@ -82,28 +77,4 @@ fn percent_of(
         },
         Text::At(own) => parsed(text, entries, at, site, own),
     }
-}
-
-// The percentage of the first child of a name of element n, absent where there is none.
-pub fn percent(
-    table: &[u32],
-    text: &[u8],
-    links: &[u16],
-    mode: u32,
-    entries: &mut [i64],
-    at: usize,
-    site: Site,
-    n: usize,
-    want: &[u8],
-) -> PercentSaid
-    ensures { λ r. ⌜ Told (reading.percent mode (linkDoc (now (table .entry)) (now (text .entry)) (now (links .entry))) (siteOf site) n (now (want .entry))) (now (entries .entry)) at (percentOf (r .percent)) (now (entries .exit)) (r .at) ⌝ }
-{
-    let e = element::kid(table, text, links, n, want);
-    if e == 0 {
-        return PercentSaid {
-            percent: Percent::Absent,
-            at,
-        };
-    }
-    percent_of(table, text, links, mode, entries, at, site, e)
 }

@@ -14,9 +14,9 @@ use report::Text;
 
 // Where an entry is made: the element's path, the term, and the index of its group.
 pub struct Site {
-    pub path: Path,
-    pub term: Term,
-    pub index: Index,
+    pub(crate) path: Path,
+    pub(crate) term: Term,
+    pub(crate) index: Index,
 }
 
 // Says a message at a site about a value.

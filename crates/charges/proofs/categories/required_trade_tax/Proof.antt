@@ -1,5 +1,5 @@
 use borrow.Author.Needs.{needs}
-use Rattle.charges.specs.Charges.{noCategory}
+use Rattle.charges.specs.Charges.{categoryFound}
 use Rattle.element.proofs.Documents.{found-is}
 use Rattle.groups.specs.Categories.{categorySays}
 use Rattle.settlement.specs.Tax as reading
@@ -7,13 +7,13 @@ use Rattle.charges.proofs.categories.required_trade_tax.Statement.{stat
 use Rattle.charges.proofs.categories.required_trade_tax.Tie as tie
 
 returns : tie.Need-returns
-unfolding reading.categoryOf noCategory
-returns c = rw (← c .before .before .before .before .kid .ensures, c .before .before .before .if1 .taken) (c .before .absent .ensures)
+unfolding categoryFound
+returns c currency = rw (c .before .before .before .if1 .taken) (c .before .absent .ensures)
 
 returns-2 : tie.Need-returns-2
-unfolding reading.categoryOf reading.categoryIn categorySays
-returns-2 c = rw (← c .before .before .before .before .kid .ensures, found-is (c .before .before .before .if1 .left)) (c .before .trade-tax .ensures)
+unfolding categoryFound reading.categoryIn categorySays
+returns-2 c currency = rw (found-is (c .before .before .before .if1 .left)) (c .before .trade-tax .ensures)
 
 pub required-trade-tax-spec : {M : Type 1} → statement M
 required-trade-tax-spec =
-    tie.close (tie.spec (λ c κs. search needs) (λ c κs. search needs) (λ c. search needs) returns (λ c κs. search needs) (λ c. search needs) returns-2)
+    tie.close (tie.spec (λ c κs. search needs) (λ c. search needs) returns (λ c κs. search needs) (λ c. search needs) returns-2)

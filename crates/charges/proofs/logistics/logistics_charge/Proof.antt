@@ -6,8 +6,7 @@ use Rattle.charges.proofs.logistics.logistics_charge.Statement.{stateme
 use Rattle.charges.proofs.logistics.logistics_charge.Tie as tie
 
 returns : tie.Need-returns
-unfolding logisticsSays
-returns c = rw (c .before .before .before .before .if1 .taken) (charge-told _ _ _ _ (c .before .before .logistics-row .ensures))
+returns c = charge-told _ _ _ _ (c .before .before .before .before .if1 .taken) (c .before .before .logistics-row .ensures)
 
 returns-2 : tie.Need-returns-2
 unfolding logisticsSays

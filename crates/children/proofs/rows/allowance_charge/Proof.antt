@@ -10,14 +10,14 @@ use Rattle.children.proofs.rows.allowance_charge.Tie as tie
 
 returns : tie.Need-returns
 unfolding stepBy actBy own home sameKind
-returns c extension p b m u =
-    let acted = allowance-acted _ _ _ _ (c .before .before .before .before .before .before .before .allowance-charge .ensures) (c .before .before .before .put-allowance-or-charge .ensures) _ u _ in
+returns c p b m u =
+    let acted = allowance-acted _ _ _ _ _ u _ (c .before .before .before .before .before .before .before .allowance-charge .ensures) (c .before .before .before .put-allowance-or-charge .ensures) in
     record { state = lanes refl refl refl refl refl refl refl refl (charge-more (c .before .if1 .taken) _ ∙ acted .same) refl refl refl refl refl refl; held = acted .held; said = acted .said; noted = acted .noted }
 
 returns-2 : tie.Need-returns-2
 unfolding stepBy actBy own home sameKind
-returns-2 c extension p b m u =
-    let acted = allowance-acted _ _ _ _ (c .before .before .before .before .before .before .before .allowance-charge .ensures) (c .before .before .before .put-allowance-or-charge .ensures) _ u _ in
+returns-2 c p b m u =
+    let acted = allowance-acted _ _ _ _ _ u _ (c .before .before .before .before .before .before .before .allowance-charge .ensures) (c .before .before .before .put-allowance-or-charge .ensures) in
     record { state = lanes refl refl refl refl refl refl refl refl (allowance-more (c .before .if1 .left) _ ∙ acted .same) refl refl refl refl refl refl; held = acted .held; said = acted .said; noted = acted .noted }
 
 pub allowance-charge-spec : {M : Type 1} → statement M

@@ -11,13 +11,13 @@ use Rattle.children.proofs.rows.logistics_charge.Tie as tie
 returns : tie.Need-returns
 unfolding stepBy actBy own home sameKind
 returns c p b m u =
-    let acted = logistics-left _ _ _ _ (rw (c .enum-told .given .1) at (c .before .before .before .logistics-charge .ensures)) _ _ _ u _ in
+    let acted = logistics-left _ _ _ _ _ u _ (rw (c .enum-told .given .1) at (c .before .before .before .logistics-charge .ensures)) _ in
     record { state = lanes refl refl refl refl refl refl refl refl (acted .same) refl refl refl refl refl refl; held = acted .held; said = acted .said; noted = acted .noted }
 
 returns-2 : tie.Need-returns-2
 unfolding stepBy actBy own home sameKind
 returns-2 c p b m u =
-    let acted = logistics-held _ _ _ _ (rw (c .before .before .before .before .before .charge .given .1) at (c .before .before .before .before .before .before .before .before .logistics-charge .ensures)) (c .before .put-charge .ensures) _ u _ in
+    let acted = logistics-held _ _ _ _ _ u _ (rw (c .before .before .before .before .before .charge .given .1) at (c .before .before .before .before .before .before .before .before .logistics-charge .ensures)) (c .before .put-charge .ensures) in
     record { state = lanes refl refl refl refl refl refl refl refl (charge-more refl _ ∙ acted .same) refl refl refl refl refl refl; held = acted .held; said = acted .said; noted = acted .noted }
 
 pub logistics-charge-spec : {M : Type 1} → statement M

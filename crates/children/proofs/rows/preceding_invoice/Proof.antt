@@ -1,5 +1,6 @@
 use mathlib.Core.Path.{refl}
 use borrow.Author.Needs.{needs}
+use Rattle.values.specs.Sites.{lentOf}
 use Rattle.children.proofs.Acting.{preceding-acted}
 use Rattle.steps.proofs.Stepping.{lanes}
 use Rattle.steps.specs.Steps.{actBy, stepBy}
@@ -10,8 +11,8 @@ use Rattle.children.proofs.rows.preceding_invoice.Tie as tie
 
 returns : tie.Need-returns
 unfolding stepBy actBy own home sameKind
-returns c currency extension p b m u =
-    let acted = preceding-acted _ _ currency extension _ _ _ (c .before .before .before .before .before .before .preceding .ensures) (c .before .put-preceding .ensures) _ u _ in
+returns c currency p b m u =
+    let acted = preceding-acted (lentOf (c .before .before .before .before .before .before .before .before .before .before .before .before .before .args .lent) currency) _ _ _ _ u _ (c .before .before .before .before .before .before .preceding .ensures) (c .before .put-preceding .ensures) in
     record { state = lanes refl refl refl refl refl refl refl refl refl refl refl refl (acted .same) refl refl; held = acted .held; said = acted .said; noted = acted .noted }
 
 pub preceding-invoice-spec : {M : Type 1} → statement M

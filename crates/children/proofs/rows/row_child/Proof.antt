@@ -15,16 +15,16 @@ preceding-invoice-requires : tie.Need-preceding-invoice-requires
 preceding-invoice-requires c κs = c .before .before .before .before .before .before .before .before .pre .invoices
 
 returns : tie.Need-returns
-returns c p b m u = rw (c .before .before .before .before .before .enum-told .given .1) (c .before .before .vat-breakdown .ensures _ p b m u)
+returns c p b m u = rw (c .before .before .before .before .before .enum-told .given .1) (c .before .before .vat-breakdown .ensures p b m u)
 
 returns-2 : tie.Need-returns-2
-returns-2 c p b m u = rw (c .before .before .before .before .before .enum-told2 .given .1) (c .before .before .allowance-charge .ensures _ p b m u)
+returns-2 c p b m u = rw (c .before .before .before .before .before .enum-told2 .given .1) (c .before .before .allowance-charge .ensures p b m u)
 
 returns-3 : tie.Need-returns-3
 returns-3 c p b m u = rw (c .before .before .before .before .before .enum-told3 .given .1) (c .before .before .logistics-charge .ensures p b m u)
 
 returns-4 : tie.Need-returns-4
-returns-4 c p b m u = rw (c .before .before .before .before .before .enum-told4 .given .1) (c .before .before .preceding-invoice .ensures _ _ p b m u)
+returns-4 c p b m u = rw (c .before .before .before .before .before .enum-told4 .given .1) (c .before .before .preceding-invoice .ensures _ p b m u)
 
 pub row-child-spec : {M : Type 1} → statement M
 row-child-spec =

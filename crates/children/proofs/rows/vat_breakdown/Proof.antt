@@ -10,8 +10,8 @@ use Rattle.children.proofs.rows.vat_breakdown.Tie as tie
 
 returns : tie.Need-returns
 unfolding stepBy actBy own home sameKind
-returns c extension p b m u =
-    let acted = vat-acted _ _ _ extension _ _ _ (c .before .before .before .before .before .before .vat-breakdown .ensures) (c .before .put-vat .ensures) _ u _ in
+returns c p b m u =
+    let acted = vat-acted _ _ _ _ _ u _ (c .before .before .before .before .before .before .before .vat-breakdown .ensures) (c .before .put-vat .ensures) in
     record { state = lanes refl refl refl refl refl refl (acted .same) refl refl refl refl refl refl refl refl; held = acted .held; said = acted .said; noted = acted .noted }
 
 pub vat-breakdown-spec : {M : Type 1} → statement M

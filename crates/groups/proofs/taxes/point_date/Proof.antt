@@ -1,17 +1,16 @@
 use borrow.Author.Needs.{needs}
-use Rattle.settlement.specs.Tax as reading
-use Rattle.text.specs.Utf8.{bytes, encode}
+use Rattle.groups.specs.Taxes.{pointDateFound}
 use Rattle.values.proofs.Telling.{told-silent}
 use Rattle.groups.proofs.taxes.point_date.Statement.{statement}
 use Rattle.groups.proofs.taxes.point_date.Tie as tie
 
 returns : tie.Need-returns
-unfolding reading.pointDate
+unfolding pointDateFound
 returns c = rw (c .before .point .given .1) (told-silent _ _)
 
 returns-2 : tie.Need-returns-2
-unfolding reading.pointDate bytes encode
-returns-2 c = rw (c .before .before .before .before .before .enum-told .given .1) (c .before .date .ensures)
+unfolding pointDateFound
+returns-2 c = rw (c .before .before .before .enum-told .given .1) (c .before .date .ensures)
 
 pub point-date-spec : {M : Type 1} → statement M
 point-date-spec =

@@ -8,7 +8,7 @@ use Rattle.payment.proofs.accounts.lose_account.Tie as tie
 
 returns : tie.Need-returns
 unfolding lost notHeld
-returns c = walked-on refl (c .before .before .before .before .put-waiting .ensures) (c .before .not-held .ensures) (rw append-nil)
+returns c = walked-on refl (c .before .before .before .before .before .put-waiting .ensures) (c .before .before .not-held .ensures) (rw append-nil)
 
 pub lose-account-spec : {M : Type 1} → statement M
 lose-account-spec =

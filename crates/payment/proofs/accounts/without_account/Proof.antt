@@ -7,7 +7,7 @@ use Rattle.payment.proofs.accounts.without_account.Tie as tie
 
 returns : tie.Need-returns
 unfolding providerOf
-returns c = λ x h u. rw (c .enum-told .given .1) (walked-still refl refl refl refl x h _ u)
+returns c = λ x h u. rw (c .enum-told .given .1) (walked-still refl refl x h _ u)
 
 returns-2 : tie.Need-returns-2
 unfolding providerOf

@@ -7,7 +7,7 @@ use Rattle.payment.proofs.instructions.information.Tie as tie
 
 returns : tie.Need-returns
 unfolding part
-returns c = walked-still refl refl refl (rw (c .first-text .ensures)) _
+returns c = walked-still refl (rw (c .before .first-text .ensures)) _
 
 pub information-spec : {M : Type 1} → statement M
 information-spec =

@@ -7,7 +7,7 @@ use Rattle.payment.proofs.instructions.type_code.Tie as tie
 
 returns : tie.Need-returns
 unfolding part
-returns c = walked-still refl refl refl (rw (c .first-code .ensures)) _
+returns c = walked-still refl (rw (c .before .first-code .ensures)) _
 
 pub type-code-spec : {M : Type 1} → statement M
 type-code-spec =

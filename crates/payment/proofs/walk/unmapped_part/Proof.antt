@@ -7,7 +7,7 @@ use Rattle.payment.proofs.walk.unmapped_part.Tie as tie
 
 returns : tie.Need-returns
 unfolding part
-returns c = walked-noted refl refl (rw (c .before .before .before .name .ensures)) (c .before .note-unmapped .ensures)
+returns c = walked-noted refl refl (rw (c .before .before .before .before .name .ensures)) (c .before .before .note-unmapped .ensures)
 
 pub unmapped-part-spec : {M : Type 1} → statement M
 unmapped-part-spec =

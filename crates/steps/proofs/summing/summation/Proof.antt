@@ -1,7 +1,6 @@
 use mathlib.Core.Path.{refl}
 use borrow.Author.Needs.{needs}
-use Rattle.steps.proofs.Extension.{totals-alike, totals-holds}
-use Rattle.steps.proofs.Stepping.{lanes, none-held}
+use Rattle.steps.proofs.Stepping.{lanes}
 use Rattle.steps.specs.Steps.{actBy, stepBy}
 use Rattle.settlement.specs.Kinds.{sameKind, home}
 use Rattle.settlement.specs.Settlement.{own, seen, soFar}
@@ -10,9 +9,9 @@ use Rattle.steps.proofs.summing.summation.Tie as tie
 
 returns : tie.Need-returns
 unfolding stepBy actBy own seen soFar home sameKind
-returns c extension t b m h =
-    let acted = rw (totals-alike _ _ _ extension _ _ _) at (c .before .before .before .totals .ensures h 0) in
-    record { state = lanes refl refl refl refl refl refl refl refl refl refl refl (acted .same) refl refl refl; held = none-held (totals-holds _ _ _ extension _ _ _) refl h; said = acted .said; noted = acted .noted }
+returns c t b m h =
+    let acted = c .before .before .before .before .totals .ensures h in
+    record { state = lanes refl refl refl refl refl refl refl refl refl refl refl (acted .same) refl refl refl; held = acted .held; said = acted .said; noted = acted .noted }
 
 pub summation-spec : {M : Type 1} → statement M
 summation-spec =

@@ -1,22 +1,21 @@
 use borrow.Author.Needs.{needs}
-use Rattle.settlement.specs.Values as reading
-use Rattle.text.specs.Utf8.{bytes, encode}
+use Rattle.values.specs.Sites.{notVatIn}
 use Rattle.values.proofs.Telling.{said-none}
 use Rattle.values.proofs.required_codes.say_non_vat.Statement.{statement}
 use Rattle.values.proofs.required_codes.say_non_vat.Tie as tie
 
 returns : tie.Need-returns
-unfolding reading.notVat bytes encode
-returns c = rw (← c .before .before .before .before .before .before .kid-text .ensures, c .before .before .before .before .code .given .1, ← c .before .before .shown .ensures, ← c .before .is-vat .ensures, c .if1 .taken) (said-none _ _)
+unfolding notVatIn
+returns c = rw (c .before .before .before .before .code .given .1, ← c .before .before .shown .ensures, ← c .before .is-vat .ensures, c .if1 .taken) (said-none _ _)
 
 returns-2 : tie.Need-returns-2
-unfolding reading.notVat bytes encode
-returns-2 c = rw (← c .before .before .kid-text .ensures, c .enum-told .given .1) (said-none _ _)
+unfolding notVatIn
+returns-2 c = rw (c .enum-told .given .1) (said-none _ _)
 
 returns-3 : tie.Need-returns-3
-unfolding reading.notVat bytes encode
-returns-3 c = rw (← c .before .before .before .before .before .before .before .before .before .kid-text .ensures, c .before .before .before .before .before .before .before .code .given .1, ← c .before .before .before .before .before .shown .ensures, ← c .before .before .before .before .is-vat .ensures, c .before .before .before .if1 .left) (c .before .say .ensures)
+unfolding notVatIn
+returns-3 c = rw (c .before .before .before .before .before .before .before .code .given .1, ← c .before .before .before .before .before .shown .ensures, ← c .before .before .before .before .is-vat .ensures, c .before .before .before .if1 .left) (c .before .say .ensures)
 
 pub say-non-vat-spec : {M : Type 1} → statement M
 say-non-vat-spec =
-    tie.close (tie.spec (λ c. search needs) (λ c κs. search needs) (λ c. search needs) (λ c. search needs) (λ c κs. search needs) (λ c κs. search needs) returns (λ c κs. search needs) returns-2 (λ c. search needs) returns-3)
+    tie.close (tie.spec (λ c. search needs) (λ c. search needs) (λ c κs. search needs) (λ c κs. search needs) returns (λ c κs. search needs) returns-2 (λ c. search needs) returns-3)
