@@ -1,5 +1,6 @@
 //! A printer's invoice as a settlement of exactly so many records: payment, terms, VAT and totals first,
-//! then ever more taxes, allowances, charges and preceding invoices, as a collective invoice has them.
+//! then ever more taxes, allowances, charges and preceding invoices, as a collective invoice has them; and one
+//! of VAT breakdowns alone.
 
 use compare::tree::Tree;
 
@@ -90,27 +91,53 @@ fn period() -> Tree {
     group("BillingSpecifiedPeriod", [date("StartDateTime", "20240201"), date("EndDateTime", "20240229")])
 }
 
-/// A settlement of `records` records, at least 16.
-pub fn settlement(records: usize) -> Tree {
-    let mut children = core();
-    let mut left = records - 1 - children.iter().map(Tree::records).sum::<usize>();
-    let mut add = |child: Tree, children: &mut Vec<Tree>| {
-        let fits = child.records() <= left;
+/// Children put into a settlement as long as they fit.
+struct Filling {
+    children: Vec<Tree>,
+    left: usize,
+}
+
+impl Filling {
+    fn of(records: usize, children: Vec<Tree>) -> Self {
+        let left = records - 1 - children.iter().map(Tree::records).sum::<usize>();
+        Filling { children, left }
+    }
+
+    fn add(&mut self, child: Tree) -> bool {
+        let fits = child.records() <= self.left;
         if fits {
-            left -= child.records();
-            children.push(child);
+            self.left -= child.records();
+            self.children.push(child);
         }
         fits
-    };
-    add(tax(0), &mut children);
-    add(payee(), &mut children);
-    add(period(), &mut children);
+    }
+
+    /// The settlement, filled up by blank accounting references.
+    fn settlement(mut self) -> Tree {
+        while self.add(leaf("ReceivableSpecifiedTradeAccountingAccount", "")) {}
+        group("ApplicableHeaderTradeSettlement", self.children)
+    }
+}
+
+/// A settlement of `records` records, at least 16.
+pub fn settlement(records: usize) -> Tree {
+    let mut all = Filling::of(records, core());
+    all.add(tax(0));
+    all.add(payee());
+    all.add(period());
     let mut i = 1;
-    while add(allowance_charge(i), &mut children) | add(tax(i), &mut children) | add(preceding(i), &mut children) {
+    while all.add(allowance_charge(i)) | all.add(tax(i)) | all.add(preceding(i)) {
         i += 1;
     }
-    while add(leaf("ReceivableSpecifiedTradeAccountingAccount", ""), &mut children) {}
-    let settlement = group("ApplicableHeaderTradeSettlement", children);
-    assert_eq!(settlement.records(), records);
-    settlement
+    all.settlement()
+}
+
+/// A settlement of `records` records that has VAT breakdowns alone.
+pub fn taxes(records: usize) -> Tree {
+    let mut all = Filling::of(records, Vec::new());
+    let mut i = 0;
+    while all.add(tax(i)) {
+        i += 1;
+    }
+    all.settlement()
 }

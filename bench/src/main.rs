@@ -55,10 +55,17 @@ fn reader_time(layout: &layout::Layout, lent: Lent<'_>, runs: clock::Runs) -> f6
 }
 
 fn invoices() {
-    println!("| Records | Rust, ns a record | Rulzhamm, ns a record | Ratio |");
+    times("An invoice", &SIZES, invoice::settlement);
+    println!();
+    times("VAT breakdowns alone", &SIZES[1..], invoice::taxes);
+}
+
+/// The two times for settlements of these many records.
+fn times(name: &str, sizes: &[usize], settlement: fn(usize) -> Tree) {
+    println!("| {name}, records | Rust, ns a record | Rulzhamm, ns a record | Ratio |");
     println!("|---|---|---|---|");
-    for records in SIZES {
-        let tree = invoice::settlement(records);
+    for &records in sizes {
+        let tree = settlement(records);
         let d = document(&tree);
         let layout = layout::plain(&tree);
         let xml = published::parse(&d.xml);

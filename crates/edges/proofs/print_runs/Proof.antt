@@ -12,23 +12,11 @@ Inv-loop leaf number s space₀ first₀ held₀ b₀ space first held b = lengt
 abbrev μ-loop : tie.MeasureT-loop
 μ-loop leaf number s space₀ first₀ held₀ b₀ space first held b = 255 - b
 
-answer-at-requires : tie.Need-answer-at-requires Inv-loop μ-loop
-answer-at-requires c κs = search needs
-
 loop-holds : tie.Need-loop-holds Inv-loop μ-loop
 loop-holds c = refl
 
 add-answer-at : tie.Need-add-answer-at Inv-loop μ-loop
 add-answer-at c = omega arith
-
-answer-at-requires-2 : tie.Need-answer-at-requires-2 Inv-loop μ-loop
-answer-at-requires-2 c κs = search needs
-
-same-numbers-requires : tie.Need-same-numbers-requires Inv-loop μ-loop
-same-numbers-requires c κs = search needs
-
-print-run-requires : tie.Need-print-run-requires Inv-loop μ-loop
-print-run-requires c κs = search needs
 
 add-first : tie.Need-add-first Inv-loop μ-loop
 add-first c = omega arith
@@ -39,34 +27,22 @@ add-b c = omega arith
 loop-less : tie.Need-loop-less Inv-loop μ-loop
 loop-less c = omega arith
 
-loop-again : tie.Need-loop-again Inv-loop μ-loop
-loop-again c = search needs
-
-print-run-requires-2 : tie.Need-print-run-requires-2 Inv-loop μ-loop
-print-run-requires-2 c κs = search needs
-
-same-length : tie.Need-same-length Inv-loop μ-loop
-same-length c = search needs
-
-returns : tie.Need-returns Inv-loop μ-loop
-returns c = search needs
-
 pub print-runs-spec : {M : Type 1} → statement M
 print-runs-spec =
     tie.close
     (tie.spec
     Inv-loop
     μ-loop
-    answer-at-requires
+    (λ c κs. search needs)
     loop-holds
     add-answer-at
-    answer-at-requires-2
-    same-numbers-requires
-    print-run-requires
+    (λ c κs. search needs)
+    (λ c κs. search needs)
+    (λ c κs. search needs)
     add-first
     add-b
     loop-less
-    loop-again
-    print-run-requires-2
-    same-length
-    returns)
+    (λ c. search needs)
+    (λ c κs. search needs)
+    (λ c. search needs)
+    (λ c. search needs))

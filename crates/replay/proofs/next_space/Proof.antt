@@ -5,12 +5,6 @@ use borrow.Author.Needs.{needs}
 use Rattle.replay.proofs.next_space.Statement.{statement}
 use Rattle.replay.proofs.next_space.Tie as tie
 
-add-space-from : tie.Need-add-space-from
-add-space-from c = search needs
-
-space-from-requires : tie.Need-space-from-requires
-space-from-requires c κs = search needs
-
 returns : tie.Need-returns
 unfolding nextSpace
 returns c = simp (c .space-from .ensures, lt-ltb _ _ (c .before .if1 .taken))
@@ -20,4 +14,4 @@ unfolding nextSpace
 returns-2 c = simp (le-ltb _ _ (c .if1 .left))
 
 pub next-space-spec : {M : Type 1} → statement M
-next-space-spec = tie.close (tie.spec add-space-from space-from-requires returns returns-2)
+next-space-spec = tie.close (tie.spec (λ c. search needs) (λ c κs. search needs) returns returns-2)

@@ -7,159 +7,6 @@ use borrow.Author.Needs.{needs}
 use Rattle.edges.proofs.answers.answer.Statement.{statement}
 use Rattle.edges.proofs.answers.answer.Tie as tie
 
-enum-told : tie.Need-enum-told
-enum-told c = search needs
-
-is-utf8-requires : tie.Need-is-utf8-requires
-is-utf8-requires c κs = search needs
-
-truth-of-requires : tie.Need-truth-of-requires
-truth-of-requires c κs = search needs
-
-one-requires : tie.Need-one-requires
-one-requires c κs = search needs
-
-enum-told-2 : tie.Need-enum-told-2
-enum-told-2 c = search needs
-
-of-trim-requires : tie.Need-of-trim-requires
-of-trim-requires c κs = search needs
-
-enum-told-3 : tie.Need-enum-told-3
-enum-told-3 c = search needs
-
-byte-at-requires : tie.Need-byte-at-requires
-byte-at-requires c κs = search needs
-
-is-digit-requires : tie.Need-is-digit-requires
-is-digit-requires c κs = search needs
-
-truth-of-requires-2 : tie.Need-truth-of-requires-2
-truth-of-requires-2 c κs = search needs
-
-one-requires-2 : tie.Need-one-requires-2
-one-requires-2 c κs = search needs
-
-enum-told-4 : tie.Need-enum-told-4
-enum-told-4 c = search needs
-
-of-same-requires : tie.Need-of-same-requires
-of-same-requires c κs = search needs
-
-enum-told-5 : tie.Need-enum-told-5
-enum-told-5 c = search needs
-
-of-compare-requires : tie.Need-of-compare-requires
-of-compare-requires c κs = search needs
-
-enum-told-6 : tie.Need-enum-told-6
-enum-told-6 c = search needs
-
-of-part-requires : tie.Need-of-part-requires
-of-part-requires c κs = search needs
-
-enum-told-7 : tie.Need-enum-told-7
-enum-told-7 c = search needs
-
-parse-requires : tie.Need-parse-requires
-parse-requires c κs = search needs
-
-of-amount-requires : tie.Need-of-amount-requires
-of-amount-requires c κs = search needs
-
-enum-told-8 : tie.Need-enum-told-8
-enum-told-8 c = search needs
-
-parse-requires-2 : tie.Need-parse-requires-2
-parse-requires-2 c κs = search needs
-
-of-percentage-requires : tie.Need-of-percentage-requires
-of-percentage-requires c κs = search needs
-
-enum-told-9 : tie.Need-enum-told-9
-enum-told-9 c = search needs
-
-parse-requires-3 : tie.Need-parse-requires-3
-parse-requires-3 c κs = search needs
-
-of-date-requires : tie.Need-of-date-requires
-of-date-requires c κs = search needs
-
-enum-told-10 : tie.Need-enum-told-10
-enum-told-10 c = search needs
-
-is-currency-requires : tie.Need-is-currency-requires
-is-currency-requires c κs = search needs
-
-truth-of-requires-3 : tie.Need-truth-of-requires-3
-truth-of-requires-3 c κs = search needs
-
-one-requires-3 : tie.Need-one-requires-3
-one-requires-3 c κs = search needs
-
-enum-told-11 : tie.Need-enum-told-11
-enum-told-11 c = search needs
-
-is-vat-requires : tie.Need-is-vat-requires
-is-vat-requires c κs = search needs
-
-truth-of-requires-4 : tie.Need-truth-of-requires-4
-truth-of-requires-4 c κs = search needs
-
-one-requires-4 : tie.Need-one-requires-4
-one-requires-4 c κs = search needs
-
-enum-told-12 : tie.Need-enum-told-12
-enum-told-12 c = search needs
-
-is-conformant-requires : tie.Need-is-conformant-requires
-is-conformant-requires c κs = search needs
-
-truth-of-requires-5 : tie.Need-truth-of-requires-5
-truth-of-requires-5 c κs = search needs
-
-one-requires-5 : tie.Need-one-requires-5
-one-requires-5 c κs = search needs
-
-enum-told-13 : tie.Need-enum-told-13
-enum-told-13 c = search needs
-
-is-date-format-requires : tie.Need-is-date-format-requires
-is-date-format-requires c κs = search needs
-
-truth-of-requires-6 : tie.Need-truth-of-requires-6
-truth-of-requires-6 c κs = search needs
-
-one-requires-6 : tie.Need-one-requires-6
-one-requires-6 c κs = search needs
-
-enum-told-14 : tie.Need-enum-told-14
-enum-told-14 c = search needs
-
-vat-point-date-code-from-cii-requires : tie.Need-vat-point-date-code-from-cii-requires
-vat-point-date-code-from-cii-requires c κs = search needs
-
-of-point-requires : tie.Need-of-point-requires
-of-point-requires c κs = search needs
-
-enum-told-15 : tie.Need-enum-told-15
-enum-told-15 c = search needs
-
-parse-boolean-requires : tie.Need-parse-boolean-requires
-parse-boolean-requires c κs = search needs
-
-of-boolean-requires : tie.Need-of-boolean-requires
-of-boolean-requires c κs = search needs
-
-enum-told-16 : tie.Need-enum-told-16
-enum-told-16 c = search needs
-
-rule-of-requires : tie.Need-rule-of-requires
-rule-of-requires c κs = search needs
-
-of-rule-requires : tie.Need-of-rule-requires
-of-rule-requires c κs = search needs
-
 returns : tie.Need-returns
 returns c = simp (c .one .ensures, read64 (c .before .truth-of .result) (c .before .truth-of .ok) ∙ c .before .truth-of .ensures, ← c .before .before .is-utf8 .ensures, c .before .before .before .enum-told .given .1)
 
@@ -212,57 +59,57 @@ pub answer-spec : {M : Type 1} → statement M
 answer-spec =
     tie.close
     (tie.spec
-    enum-told
-    is-utf8-requires
-    truth-of-requires
-    one-requires
-    enum-told-2
-    of-trim-requires
-    enum-told-3
-    byte-at-requires
-    is-digit-requires
-    truth-of-requires-2
-    one-requires-2
-    enum-told-4
-    of-same-requires
-    enum-told-5
-    of-compare-requires
-    enum-told-6
-    of-part-requires
-    enum-told-7
-    parse-requires
-    of-amount-requires
-    enum-told-8
-    parse-requires-2
-    of-percentage-requires
-    enum-told-9
-    parse-requires-3
-    of-date-requires
-    enum-told-10
-    is-currency-requires
-    truth-of-requires-3
-    one-requires-3
-    enum-told-11
-    is-vat-requires
-    truth-of-requires-4
-    one-requires-4
-    enum-told-12
-    is-conformant-requires
-    truth-of-requires-5
-    one-requires-5
-    enum-told-13
-    is-date-format-requires
-    truth-of-requires-6
-    one-requires-6
-    enum-told-14
-    vat-point-date-code-from-cii-requires
-    of-point-requires
-    enum-told-15
-    parse-boolean-requires
-    of-boolean-requires
-    enum-told-16
-    rule-of-requires
-    of-rule-requires
+    (λ c. search needs)
+    (λ c κs. search needs)
+    (λ c κs. search needs)
+    (λ c κs. search needs)
+    (λ c. search needs)
+    (λ c κs. search needs)
+    (λ c. search needs)
+    (λ c κs. search needs)
+    (λ c κs. search needs)
+    (λ c κs. search needs)
+    (λ c κs. search needs)
+    (λ c. search needs)
+    (λ c κs. search needs)
+    (λ c. search needs)
+    (λ c κs. search needs)
+    (λ c. search needs)
+    (λ c κs. search needs)
+    (λ c. search needs)
+    (λ c κs. search needs)
+    (λ c κs. search needs)
+    (λ c. search needs)
+    (λ c κs. search needs)
+    (λ c κs. search needs)
+    (λ c. search needs)
+    (λ c κs. search needs)
+    (λ c κs. search needs)
+    (λ c. search needs)
+    (λ c κs. search needs)
+    (λ c κs. search needs)
+    (λ c κs. search needs)
+    (λ c. search needs)
+    (λ c κs. search needs)
+    (λ c κs. search needs)
+    (λ c κs. search needs)
+    (λ c. search needs)
+    (λ c κs. search needs)
+    (λ c κs. search needs)
+    (λ c κs. search needs)
+    (λ c. search needs)
+    (λ c κs. search needs)
+    (λ c κs. search needs)
+    (λ c κs. search needs)
+    (λ c. search needs)
+    (λ c κs. search needs)
+    (λ c κs. search needs)
+    (λ c. search needs)
+    (λ c κs. search needs)
+    (λ c κs. search needs)
+    (λ c. search needs)
+    (λ c κs. search needs)
+    (λ c κs. search needs)
     returns
     returns-2
     returns-3

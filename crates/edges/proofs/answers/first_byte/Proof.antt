@@ -4,9 +4,6 @@ use borrow.Author.Needs.{needs}
 use Rattle.edges.proofs.answers.first_byte.Statement.{statement}
 use Rattle.edges.proofs.answers.first_byte.Tie as tie
 
-shared-slice-read-result : tie.Need-shared-slice-read-result
-shared-slice-read-result c = search needs
-
 cast-result : tie.Need-cast-result
 cast-result c = record { sfits = omega (arith, c .shared-slice-known .given 0) }
 
@@ -17,4 +14,4 @@ returns-2 : tie.Need-returns-2
 returns-2 c = search first-none
 
 pub first-byte-spec : {M : Type 1} → statement M
-first-byte-spec = tie.close (tie.spec shared-slice-read-result cast-result returns returns-2)
+first-byte-spec = tie.close (tie.spec (λ c. search needs) cast-result returns returns-2)

@@ -3,15 +3,6 @@ use borrow.Author.Needs.{needs}
 use Rattle.edges.proofs.answers.head.Statement.{statement}
 use Rattle.edges.proofs.answers.head.Tie as tie
 
-sub-result : tie.Need-sub-result
-sub-result c = search needs
-
-part-result-start : tie.Need-part-result-start
-part-result-start c = search needs
-
-part-result-end : tie.Need-part-result-end
-part-result-end c = search needs
-
 returns : tie.Need-returns
 returns c = search head-some
 
@@ -19,4 +10,4 @@ returns-2 : tie.Need-returns-2
 returns-2 c = search head-all
 
 pub head-spec : {M : Type 1} → statement M
-head-spec = tie.close (tie.spec sub-result part-result-start part-result-end returns returns-2)
+head-spec = tie.close (tie.spec (λ c. search needs) (λ c. search needs) (λ c. search needs) returns returns-2)

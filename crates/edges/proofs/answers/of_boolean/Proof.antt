@@ -4,21 +4,6 @@ use borrow.Author.Needs.{needs}
 use Rattle.edges.proofs.answers.of_boolean.Statement.{statement}
 use Rattle.edges.proofs.answers.of_boolean.Tie as tie
 
-enum-known-p : tie.Need-enum-known-p
-enum-known-p c = search needs
-
-truth-of-requires : tie.Need-truth-of-requires
-truth-of-requires c κs = search needs
-
-two-requires : tie.Need-two-requires
-two-requires c κs = search needs
-
-enum-told : tie.Need-enum-told
-enum-told c = search needs
-
-one-requires : tie.Need-one-requires
-one-requires c κs = search needs
-
 returns : tie.Need-returns
 returns c = simp (c .two .ensures, read64 (c .before .truth-of .result) (c .before .truth-of .ok) ∙ c .before .truth-of .ensures, c .before .before .before .p .given .1)
 
@@ -28,4 +13,11 @@ returns-2 c = simp (c .one .ensures, c .before .enum-told .given .1)
 pub of-boolean-spec : {M : Type 1} → statement M
 of-boolean-spec =
     tie.close
-    (tie.spec enum-known-p truth-of-requires two-requires enum-told one-requires returns returns-2)
+    (tie.spec
+    (λ c. search needs)
+    (λ c κs. search needs)
+    (λ c κs. search needs)
+    (λ c. search needs)
+    (λ c κs. search needs)
+    returns
+    returns-2)

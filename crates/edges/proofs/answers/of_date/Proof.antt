@@ -4,27 +4,6 @@ use borrow.Author.Needs.{needs}
 use Rattle.edges.proofs.answers.of_date.Statement.{statement}
 use Rattle.edges.proofs.answers.of_date.Tie as tie
 
-enum-known-p : tie.Need-enum-known-p
-enum-known-p c = search needs
-
-wide-requires : tie.Need-wide-requires
-wide-requires c κs = search needs
-
-two-requires : tie.Need-two-requires
-two-requires c κs = search needs
-
-enum-told : tie.Need-enum-told
-enum-told c = search needs
-
-one-requires : tie.Need-one-requires
-one-requires c κs = search needs
-
-enum-told-2 : tie.Need-enum-told-2
-enum-told-2 c = search needs
-
-one-requires-2 : tie.Need-one-requires-2
-one-requires-2 c κs = search needs
-
 returns : tie.Need-returns
 returns c = simp (c .two .ensures, read64 (c .before .wide .result) (c .before .wide .ok) ∙ c .before .wide .ensures, c .before .before .before .p .given .1)
 
@@ -38,13 +17,13 @@ pub of-date-spec : {M : Type 1} → statement M
 of-date-spec =
     tie.close
     (tie.spec
-    enum-known-p
-    wide-requires
-    two-requires
-    enum-told
-    one-requires
-    enum-told-2
-    one-requires-2
+    (λ c. search needs)
+    (λ c κs. search needs)
+    (λ c κs. search needs)
+    (λ c. search needs)
+    (λ c κs. search needs)
+    (λ c. search needs)
+    (λ c κs. search needs)
     returns
     returns-2
     returns-3)

@@ -2,24 +2,6 @@ use borrow.Author.Needs.{needs}
 use Rattle.edges.proofs.answers.of_ordering.Statement.{statement}
 use Rattle.edges.proofs.answers.of_ordering.Tie as tie
 
-enum-told : tie.Need-enum-told
-enum-told c = search needs
-
-one-requires : tie.Need-one-requires
-one-requires c κs = search needs
-
-enum-told-2 : tie.Need-enum-told-2
-enum-told-2 c = search needs
-
-one-requires-2 : tie.Need-one-requires-2
-one-requires-2 c κs = search needs
-
-enum-told-3 : tie.Need-enum-told-3
-enum-told-3 c = search needs
-
-one-requires-3 : tie.Need-one-requires-3
-one-requires-3 c κs = search needs
-
 returns : tie.Need-returns
 returns c = simp (c .one .ensures, c .before .enum-told .given .1)
 
@@ -33,12 +15,12 @@ pub of-ordering-spec : {M : Type 1} → statement M
 of-ordering-spec =
     tie.close
     (tie.spec
-    enum-told
-    one-requires
-    enum-told-2
-    one-requires-2
-    enum-told-3
-    one-requires-3
+    (λ c. search needs)
+    (λ c κs. search needs)
+    (λ c. search needs)
+    (λ c κs. search needs)
+    (λ c. search needs)
+    (λ c κs. search needs)
     returns
     returns-2
     returns-3)

@@ -2,24 +2,6 @@ use borrow.Author.Needs.{needs}
 use Rattle.edges.proofs.answers.of_percentage.Statement.{statement}
 use Rattle.edges.proofs.answers.of_percentage.Tie as tie
 
-enum-known-p : tie.Need-enum-known-p
-enum-known-p c = search needs
-
-of-rate-requires : tie.Need-of-rate-requires
-of-rate-requires c κs = search needs
-
-enum-told : tie.Need-enum-told
-enum-told c = search needs
-
-one-requires : tie.Need-one-requires
-one-requires c κs = search needs
-
-enum-told-2 : tie.Need-enum-told-2
-enum-told-2 c = search needs
-
-one-requires-2 : tie.Need-one-requires-2
-one-requires-2 c κs = search needs
-
 returns : tie.Need-returns
 returns c = simp (c .of-rate .ensures, c .before .before .p .given .1)
 
@@ -33,12 +15,12 @@ pub of-percentage-spec : {M : Type 1} → statement M
 of-percentage-spec =
     tie.close
     (tie.spec
-    enum-known-p
-    of-rate-requires
-    enum-told
-    one-requires
-    enum-told-2
-    one-requires-2
+    (λ c. search needs)
+    (λ c κs. search needs)
+    (λ c. search needs)
+    (λ c κs. search needs)
+    (λ c. search needs)
+    (λ c κs. search needs)
     returns
     returns-2
     returns-3)

@@ -4,22 +4,15 @@ use borrow.Author.Needs.{needs}
 use Rattle.edges.proofs.answers.of_rate.Statement.{statement}
 use Rattle.edges.proofs.answers.of_rate.Tie as tie
 
-to-unscaled-requires : tie.Need-to-unscaled-requires
-to-unscaled-requires c κs = search needs
-
-to-scale-requires : tie.Need-to-scale-requires
-to-scale-requires c κs = search needs
-
-wide-requires : tie.Need-wide-requires
-wide-requires c κs = search needs
-
-three-requires : tie.Need-three-requires
-three-requires c κs = search needs
-
 returns : tie.Need-returns
 returns c = simp (c .three .ensures, read64 (c .before .wide .result) (c .before .wide .ok) ∙ c .before .wide .ensures, ← c .before .before .to-scale .ensures, read64 (c .before .before .before .to-unscaled .result) (c .before .before .before .to-unscaled .ok) ∙ c .before .before .before .to-unscaled .ensures)
 
 pub of-rate-spec : {M : Type 1} → statement M
 of-rate-spec =
     tie.close
-    (tie.spec to-unscaled-requires to-scale-requires wide-requires three-requires returns)
+    (tie.spec
+    (λ c κs. search needs)
+    (λ c κs. search needs)
+    (λ c κs. search needs)
+    (λ c κs. search needs)
+    returns)

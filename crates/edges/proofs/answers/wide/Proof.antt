@@ -4,11 +4,8 @@ use borrow.Author.Needs.{needs}
 use Rattle.edges.proofs.answers.wide.Statement.{statement}
 use Rattle.edges.proofs.answers.wide.Tie as tie
 
-cast-result : tie.Need-cast-result
-cast-result c = search needs
-
 returns : tie.Need-returns
 returns c = as-signed _ (omega arith)
 
 pub wide-spec : {M : Type 1} → statement M
-wide-spec = tie.close (tie.spec cast-result returns)
+wide-spec = tie.close (tie.spec (λ c. search needs) returns)

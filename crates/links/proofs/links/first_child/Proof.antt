@@ -3,14 +3,8 @@ use borrow.Author.Needs.{needs}
 use Rattle.links.proofs.links.first_child.Statement.{statement}
 use Rattle.links.proofs.links.first_child.Tie as tie
 
-link-at-requires : tie.Need-link-at-requires
-link-at-requires c κs = search needs
-
-first-in-chain-requires : tie.Need-first-in-chain-requires
-first-in-chain-requires c κs = search needs
-
 returns : tie.Need-returns
 returns c = search search-start
 
 pub first-child-spec : {M : Type 1} → statement M
-first-child-spec = tie.close (tie.spec link-at-requires first-in-chain-requires returns)
+first-child-spec = tie.close (tie.spec (λ c κs. search needs) (λ c κs. search needs) returns)

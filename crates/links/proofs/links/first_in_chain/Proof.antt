@@ -21,14 +21,8 @@ loop-holds c = refl
 returns : tie.Need-returns Inv-loop μ-loop
 returns c = search search-zero
 
-is-named-requires : tie.Need-is-named-requires Inv-loop μ-loop
-is-named-requires c κs = search needs
-
 returns-2 : tie.Need-returns-2 Inv-loop μ-loop
 returns-2 c = search search-here
-
-next-of-requires : tie.Need-next-of-requires Inv-loop μ-loop
-next-of-requires c κs = search needs
 
 sub-left : tie.Need-sub-left Inv-loop μ-loop
 sub-left c = omega arith
@@ -50,9 +44,9 @@ first-in-chain-spec =
     μ-loop
     loop-holds
     returns
-    is-named-requires
+    (λ c κs. search needs)
     returns-2
-    next-of-requires
+    (λ c κs. search needs)
     sub-left
     loop-less
     loop-again

@@ -3,15 +3,6 @@ use borrow.Author.Needs.{needs}
 use Rattle.links.proofs.links.link.Statement.{statement}
 use Rattle.links.proofs.links.link.Tie as tie
 
-mul-if1 : tie.Need-mul-if1
-mul-if1 c = search needs
-
-link-each-requires : tie.Need-link-each-requires
-link-each-requires c κs = search needs
-
-same-length : tie.Need-same-length
-same-length c = search needs
-
 returns : tie.Need-returns
 returns c = search link-roomy
 
@@ -22,4 +13,12 @@ returns-3 : tie.Need-returns-3
 returns-3 c = search link-cramped
 
 pub link-spec : {M : Type 1} → statement M
-link-spec = tie.close (tie.spec mul-if1 link-each-requires same-length returns returns-2 returns-3)
+link-spec =
+    tie.close
+    (tie.spec
+    (λ c. search needs)
+    (λ c κs. search needs)
+    (λ c. search needs)
+    returns
+    returns-2
+    returns-3)

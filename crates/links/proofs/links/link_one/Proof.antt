@@ -5,23 +5,11 @@ use borrow.Author.Needs.{needs}
 use Rattle.links.proofs.links.link_one.Statement.{statement}
 use Rattle.links.proofs.links.link_one.Tie as tie
 
-field-at-requires : tie.Need-field-at-requires
-field-at-requires c κs = search needs
-
-field-at-requires-2 : tie.Need-field-at-requires-2
-field-at-requires-2 c κs = search needs
-
-does-join-requires : tie.Need-does-join-requires
-does-join-requires c κs = search needs
-
 sub-put-in-front : tie.Need-sub-put-in-front
 sub-put-in-front c = let y = joined _ _ _ _ (c .before .before .does-join .ensures) (c .before .if1 .taken) in omega (arith, y .some-kind, y .known-kind, y .earlier)
 
 put-in-front-requires : tie.Need-put-in-front-requires
 put-in-front-requires c κs = let y = joined _ _ _ _ (c .before .before .does-join .ensures) (c .before .if1 .taken) in omega (arith, y .some-kind, y .known-kind, y .earlier)
-
-same-length : tie.Need-same-length
-same-length c = search needs
 
 returns : tie.Need-returns
 returns c = search one-joins
@@ -33,11 +21,11 @@ pub link-one-spec : {M : Type 1} → statement M
 link-one-spec =
     tie.close
     (tie.spec
-    field-at-requires
-    field-at-requires-2
-    does-join-requires
+    (λ c κs. search needs)
+    (λ c κs. search needs)
+    (λ c κs. search needs)
     sub-put-in-front
     put-in-front-requires
-    same-length
+    (λ c. search needs)
     returns
     returns-2)

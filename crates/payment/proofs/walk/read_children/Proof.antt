@@ -14,9 +14,6 @@ abbrev μ-loop : tie.MeasureT-loop
 μ-loop table text links held₀ entries₀ unmapped₀ n walk₀ c₀ left₀ held entries unmapped walk c left =
     left
 
-first-of-requires : tie.Need-first-of-requires Inv-loop μ-loop
-first-of-requires c κs = search needs
-
 loop-holds : tie.Need-loop-holds Inv-loop μ-loop
 loop-holds c = (search reached-start, refl, refl, refl)
 
@@ -31,12 +28,6 @@ same-length-3 c = omega arith
 
 returns : tie.Need-returns Inv-loop μ-loop
 returns c = search reached-zero
-
-read-child-requires : tie.Need-read-child-requires Inv-loop μ-loop
-read-child-requires c κs = search needs
-
-next-of-requires : tie.Need-next-of-requires Inv-loop μ-loop
-next-of-requires c κs = search needs
 
 sub-left : tie.Need-sub-left Inv-loop μ-loop
 sub-left c = omega arith
@@ -65,14 +56,14 @@ read-children-spec =
     (tie.spec
     Inv-loop
     μ-loop
-    first-of-requires
+    (λ c κs. search needs)
     loop-holds
     same-length
     same-length-2
     same-length-3
     returns
-    read-child-requires
-    next-of-requires
+    (λ c κs. search needs)
+    (λ c κs. search needs)
     sub-left
     loop-less
     loop-again

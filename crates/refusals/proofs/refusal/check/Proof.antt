@@ -7,9 +7,6 @@ returns : tie.Need-returns
 unfolding refusal ragged
 returns c = simp (c .if1 .taken)
 
-check-sizes-requires : tie.Need-check-sizes-requires
-check-sizes-requires c κs = search needs
-
 returns-2 : tie.Need-returns-2
 unfolding refusal ragged
 returns-2 c = simp (c .check-sizes .ensures, c .before .if2 .taken, c .before .before .if1 .left)
@@ -19,4 +16,4 @@ unfolding refusal ragged
 returns-3 c = simp (c .if2 .left, c .before .if1 .left)
 
 pub check-spec : {M : Type 1} → statement M
-check-spec = tie.close (tie.spec returns check-sizes-requires returns-2 returns-3)
+check-spec = tie.close (tie.spec returns (λ c κs. search needs) returns-2 returns-3)

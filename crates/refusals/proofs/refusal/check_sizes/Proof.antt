@@ -11,15 +11,9 @@ returns-2 : tie.Need-returns-2
 unfolding sizeRefusal oversized
 returns-2 c = simp (c .if2 .taken, c .before .if1 .left)
 
-is-not-root-requires : tie.Need-is-not-root-requires
-is-not-root-requires c κs = search needs
-
 returns-3 : tie.Need-returns-3
 unfolding sizeRefusal oversized
 returns-3 c = simp (c .if3 .taken, ← c .before .is-not-root .ensures, c .before .before .if2 .left, c .before .before .before .if1 .left)
-
-check-records-requires : tie.Need-check-records-requires
-check-records-requires c κs = search needs
 
 returns-4 : tie.Need-returns-4
 unfolding sizeRefusal oversized
@@ -27,5 +21,4 @@ returns-4 c = simp (c .check-records .ensures, c .before .if3 .left, ← c .befo
 
 pub check-sizes-spec : {M : Type 1} → statement M
 check-sizes-spec =
-    tie.close
-    (tie.spec returns returns-2 is-not-root-requires returns-3 check-records-requires returns-4)
+    tie.close (tie.spec returns returns-2 (λ c κs. search needs) returns-3 (λ c κs. search needs) returns-4)

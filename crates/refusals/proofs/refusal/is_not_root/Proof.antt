@@ -3,12 +3,6 @@ use borrow.Author.Needs.{needs}
 use Rattle.refusals.proofs.refusal.is_not_root.Statement.{statement}
 use Rattle.refusals.proofs.refusal.is_not_root.Tie as tie
 
-field-of-requires : tie.Need-field-of-requires
-field-of-requires c κs = search needs
-
-field-of-requires-2 : tie.Need-field-of-requires-2
-field-of-requires-2 c κs = search needs
-
 returns : tie.Need-returns
 unfolding notRoot
 returns c = simp (c .if2 .taken, ← c .before .field-of2 .ensures, c .before .before .if1 .taken, ← c .before .before .before .field-of .ensures)
@@ -23,4 +17,4 @@ returns-3 c = simp (c .if1 .left, ← c .before .field-of .ensures)
 
 pub is-not-root-spec : {M : Type 1} → statement M
 is-not-root-spec =
-    tie.close (tie.spec field-of-requires field-of-requires-2 returns returns-2 returns-3)
+    tie.close (tie.spec (λ c κs. search needs) (λ c κs. search needs) returns returns-2 returns-3)

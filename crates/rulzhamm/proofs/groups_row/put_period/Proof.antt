@@ -4,38 +4,8 @@ use Rattle.report.proofs.Cells.{as-row, cell, literal}
 use Rattle.rulzhamm.proofs.groups_row.put_period.Statement.{statement}
 use Rattle.rulzhamm.proofs.groups_row.put_period.Tie as tie
 
-enum-told : tie.Need-enum-told
-enum-told c = search needs
-
-slice-aggregate-put-row : tie.Need-slice-aggregate-put-row
-slice-aggregate-put-row c = search needs
-
-put-row-requires : tie.Need-put-row-requires
-put-row-requires c κs = search needs
-
-enum-known-p : tie.Need-enum-known-p
-enum-known-p c = search needs
-
-day-number-requires : tie.Need-day-number-requires
-day-number-requires c κs = search needs
-
-day-number-requires-2 : tie.Need-day-number-requires-2
-day-number-requires-2 c κs = search needs
-
-slice-aggregate-put-row-2 : tie.Need-slice-aggregate-put-row-2
-slice-aggregate-put-row-2 c = search needs
-
-put-row-requires-2 : tie.Need-put-row-requires-2
-put-row-requires-2 c κs = search needs
-
-same-length : tie.Need-same-length
-same-length c = search needs
-
 returns : tie.Need-returns
 returns c = rw (c .before .before .before .before .enum-told .given .1) (c .before .put-row .ensures)
-
-same-length-2 : tie.Need-same-length-2
-same-length-2 c = search needs
 
 returns-2 : tie.Need-returns-2
 returns-2 c =
@@ -47,15 +17,15 @@ pub put-period-spec : {M : Type 1} → statement M
 put-period-spec =
     tie.close
     (tie.spec
-    enum-told
-    slice-aggregate-put-row
-    put-row-requires
-    enum-known-p
-    day-number-requires
-    day-number-requires-2
-    slice-aggregate-put-row-2
-    put-row-requires-2
-    same-length
+    (λ c. search needs)
+    (λ c. search needs)
+    (λ c κs. search needs)
+    (λ c. search needs)
+    (λ c κs. search needs)
+    (λ c κs. search needs)
+    (λ c. search needs)
+    (λ c κs. search needs)
+    (λ c. search needs)
     returns
-    same-length-2
+    (λ c. search needs)
     returns-2)

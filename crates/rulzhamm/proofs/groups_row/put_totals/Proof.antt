@@ -4,63 +4,6 @@ use Rattle.report.proofs.Cells.{as-row, cell}
 use Rattle.rulzhamm.proofs.groups_row.put_totals.Statement.{statement}
 use Rattle.rulzhamm.proofs.groups_row.put_totals.Tie as tie
 
-to-minor-units-requires : tie.Need-to-minor-units-requires
-to-minor-units-requires c κs = search needs
-
-amount-present-requires : tie.Need-amount-present-requires
-amount-present-requires c κs = search needs
-
-amount-hundredths-requires : tie.Need-amount-hundredths-requires
-amount-hundredths-requires c κs = search needs
-
-amount-present-requires-2 : tie.Need-amount-present-requires-2
-amount-present-requires-2 c κs = search needs
-
-amount-hundredths-requires-2 : tie.Need-amount-hundredths-requires-2
-amount-hundredths-requires-2 c κs = search needs
-
-to-minor-units-requires-2 : tie.Need-to-minor-units-requires-2
-to-minor-units-requires-2 c κs = search needs
-
-amount-present-requires-3 : tie.Need-amount-present-requires-3
-amount-present-requires-3 c κs = search needs
-
-amount-hundredths-requires-3 : tie.Need-amount-hundredths-requires-3
-amount-hundredths-requires-3 c κs = search needs
-
-amount-present-requires-4 : tie.Need-amount-present-requires-4
-amount-present-requires-4 c κs = search needs
-
-amount-hundredths-requires-4 : tie.Need-amount-hundredths-requires-4
-amount-hundredths-requires-4 c κs = search needs
-
-to-minor-units-requires-3 : tie.Need-to-minor-units-requires-3
-to-minor-units-requires-3 c κs = search needs
-
-amount-present-requires-5 : tie.Need-amount-present-requires-5
-amount-present-requires-5 c κs = search needs
-
-amount-hundredths-requires-5 : tie.Need-amount-hundredths-requires-5
-amount-hundredths-requires-5 c κs = search needs
-
-amount-present-requires-6 : tie.Need-amount-present-requires-6
-amount-present-requires-6 c κs = search needs
-
-amount-hundredths-requires-6 : tie.Need-amount-hundredths-requires-6
-amount-hundredths-requires-6 c κs = search needs
-
-to-minor-units-requires-4 : tie.Need-to-minor-units-requires-4
-to-minor-units-requires-4 c κs = search needs
-
-slice-aggregate-put-row : tie.Need-slice-aggregate-put-row
-slice-aggregate-put-row c = search needs
-
-put-row-requires : tie.Need-put-row-requires
-put-row-requires c κs = search needs
-
-same-length : tie.Need-same-length
-same-length c = search needs
-
 returns : tie.Need-returns
 returns c =
     let p16 = c .before .before .before .before in
@@ -85,23 +28,23 @@ pub put-totals-spec : {M : Type 1} → statement M
 put-totals-spec =
     tie.close
     (tie.spec
-    to-minor-units-requires
-    amount-present-requires
-    amount-hundredths-requires
-    amount-present-requires-2
-    amount-hundredths-requires-2
-    to-minor-units-requires-2
-    amount-present-requires-3
-    amount-hundredths-requires-3
-    amount-present-requires-4
-    amount-hundredths-requires-4
-    to-minor-units-requires-3
-    amount-present-requires-5
-    amount-hundredths-requires-5
-    amount-present-requires-6
-    amount-hundredths-requires-6
-    to-minor-units-requires-4
-    slice-aggregate-put-row
-    put-row-requires
-    same-length
+    (λ c κs. search needs)
+    (λ c κs. search needs)
+    (λ c κs. search needs)
+    (λ c κs. search needs)
+    (λ c κs. search needs)
+    (λ c κs. search needs)
+    (λ c κs. search needs)
+    (λ c κs. search needs)
+    (λ c κs. search needs)
+    (λ c κs. search needs)
+    (λ c κs. search needs)
+    (λ c κs. search needs)
+    (λ c κs. search needs)
+    (λ c κs. search needs)
+    (λ c κs. search needs)
+    (λ c κs. search needs)
+    (λ c. search needs)
+    (λ c κs. search needs)
+    (λ c. search needs)
     returns)

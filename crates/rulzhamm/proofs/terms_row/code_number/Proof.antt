@@ -3,18 +3,6 @@ use Rattle.report.proofs.Cells.{carried}
 use Rattle.rulzhamm.proofs.terms_row.code_number.Statement.{statement}
 use Rattle.rulzhamm.proofs.terms_row.code_number.Tie as tie
 
-enum-told : tie.Need-enum-told
-enum-told c = search needs
-
-enum-known-c : tie.Need-enum-known-c
-enum-known-c c = search needs
-
-cast-signed : tie.Need-cast-signed
-cast-signed c = search needs
-
-signed-requires : tie.Need-signed-requires
-signed-requires c κs = search needs
-
 returns : tie.Need-returns
 returns c = simp (c .enum-told .given .1)
 
@@ -23,4 +11,11 @@ returns-2 c = rw (c .before .before .c .given .1) (carried (c .signed .ok) (c .s
 
 pub code-number-spec : {M : Type 1} → statement M
 code-number-spec =
-    tie.close (tie.spec enum-told enum-known-c cast-signed signed-requires returns returns-2)
+    tie.close
+    (tie.spec
+    (λ c. search needs)
+    (λ c. search needs)
+    (λ c. search needs)
+    (λ c κs. search needs)
+    returns
+    returns-2)

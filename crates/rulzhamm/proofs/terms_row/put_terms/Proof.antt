@@ -3,33 +3,6 @@ use Rattle.rulzhamm.proofs.Rows.{terms-placed}
 use Rattle.rulzhamm.proofs.terms_row.put_terms.Statement.{statement}
 use Rattle.rulzhamm.proofs.terms_row.put_terms.Tie as tie
 
-put-plain-requires : tie.Need-put-plain-requires
-put-plain-requires c κs = search needs
-
-put-payee-requires : tie.Need-put-payee-requires
-put-payee-requires c κs = search needs
-
-put-period-requires : tie.Need-put-period-requires
-put-period-requires c κs = search needs
-
-put-payment-requires : tie.Need-put-payment-requires
-put-payment-requires c κs = search needs
-
-put-means-requires : tie.Need-put-means-requires
-put-means-requires c κs = search needs
-
-put-text-requires : tie.Need-put-text-requires
-put-text-requires c κs = search needs
-
-put-text-requires-2 : tie.Need-put-text-requires-2
-put-text-requires-2 c κs = search needs
-
-put-totals-requires : tie.Need-put-totals-requires
-put-totals-requires c κs = search needs
-
-same-length : tie.Need-same-length
-same-length c = search needs
-
 returns : tie.Need-returns
 returns c =
     let p7 = c .before .before .before .before in
@@ -45,13 +18,13 @@ pub put-terms-spec : {M : Type 1} → statement M
 put-terms-spec =
     tie.close
     (tie.spec
-    put-plain-requires
-    put-payee-requires
-    put-period-requires
-    put-payment-requires
-    put-means-requires
-    put-text-requires
-    put-text-requires-2
-    put-totals-requires
-    same-length
+    (λ c κs. search needs)
+    (λ c κs. search needs)
+    (λ c κs. search needs)
+    (λ c κs. search needs)
+    (λ c κs. search needs)
+    (λ c κs. search needs)
+    (λ c κs. search needs)
+    (λ c κs. search needs)
+    (λ c. search needs)
     returns)

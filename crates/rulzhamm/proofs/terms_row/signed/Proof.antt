@@ -4,11 +4,8 @@ use mir.Syntax.{w64}
 use Rattle.rulzhamm.proofs.terms_row.signed.Statement.{statement}
 use Rattle.rulzhamm.proofs.terms_row.signed.Tie as tie
 
-cast-result : tie.Need-cast-result
-cast-result c = search needs
-
 returns : tie.Need-returns
 returns c = toZ-pos w64 (c .pre)
 
 pub signed-spec : {M : Type 1} → statement M
-signed-spec = tie.close (tie.spec cast-result returns)
+signed-spec = tie.close (tie.spec (λ c. search needs) returns)
