@@ -4,10 +4,10 @@
   edges.py            write crates/edges/stdin (the cases) and crates/edges/stdout (the answers)
   edges.py --check    only say whether the two files are up to date
 
-The answers come from a model of its own, written from document 01 and the public standards that it
-names: UTF-8 (RFC 3629), White_Space (Unicode), xs:decimal and xs:boolean (XML Schema part 2), the
-Gregorian calendar (ISO 8601) and ISO 4217. The program `edges` runs the proved functions on the
-same cases, and `rt check` compares what it prints with these answers.
+The answers come from a model of its own, written from document 01, the change requests and the public
+standards that they name: UTF-8 (RFC 3629), White_Space (Unicode), white space, xs:decimal and xs:boolean
+(XML Schema part 2), the Gregorian calendar (ISO 8601) and ISO 4217. The program `edges` runs the proved
+functions on the same cases, and `rt check` compares what it prints with these answers.
 
 A case is a line `LEAF NUMBER TEXT`. In TEXT printable ASCII stands for itself, `\\HH` for one byte,
 and one `\\*` for a hole, in which the case is run with each byte value.
@@ -24,6 +24,9 @@ import sys
 WHITE_SPACE = [
     *range(0x9, 0xE), 0x20, 0x85, 0xA0, 0x1680, *range(0x2000, 0x200B), 0x2028, 0x2029, 0x202F, 0x205F, 0x3000,
 ]
+
+# White space of XML Schema (part 2, 4.3.6), which mode 1 trims.
+BLANKS = [0x9, 0xA, 0xD, 0x20]
 
 # The alphabetic codes of ISO 4217, as Debian's iso-codes 4.15.0 has them.
 CURRENCIES = """
@@ -55,7 +58,7 @@ def trim(s, mode):
     """The place of what trimming leaves: 0, 0 for nothing, all of what is not UTF-8."""
     if not is_utf8(s):
         return 0, len(s)
-    white = " \t" if mode else "".join(map(chr, WHITE_SPACE))
+    white = "".join(map(chr, BLANKS if mode else WHITE_SPACE))
     text = s.decode("utf-8")
     kept = text.strip(white)
     start = len(text) - len(text.lstrip(white)) if kept else 0
@@ -63,7 +66,10 @@ def trim(s, mode):
     return start, start + len(kept.encode("utf-8"))
 
 
-def trimmed(s, mode):
+def lexical(s, mode):
+    """What is parsed of a number or a date: collapsed as XML Schema does (part 2, 4.3.6), in mode 0 trimmed."""
+    if mode:
+        return re.sub(rb"[\t\n\r ]+", b" ", s).strip(b" ")
     start, end = trim(s, mode)
     return s[start:end]
 
@@ -78,7 +84,7 @@ def decimal(s):
 
 
 def amount(s, mode):
-    s = trimmed(s, mode)
+    s = lexical(s, mode)
     if not s:
         return (0,)
     parts = decimal(s)
@@ -94,7 +100,7 @@ def amount(s, mode):
 
 
 def percentage(s, mode):
-    parts = decimal(trimmed(s, mode))
+    parts = decimal(lexical(s, mode))
     if parts is None:
         return (6,)
     sign, whole, fraction = parts
@@ -104,7 +110,7 @@ def percentage(s, mode):
 
 
 def date(s, mode):
-    s = trimmed(s, mode)
+    s = lexical(s, mode)
     if not re.fullmatch(rb"[0-9]{8}", s):
         return (12,)
     year, month, day = int(s[:4]), int(s[4:6]), int(s[6:])
@@ -391,6 +397,24 @@ def trimming():
         both("trim", *(h + "a" for h in holes(c)), *("a" + h for h in holes(c)))
 
 
+def blanks():
+    # Change request R-1: XML Schema's four characters at each end and at both, alone, twice, and inside.
+    others = [char(c) for c in (0xA0, 0xB, 0x85)]
+    for leaf, text in ("amount", "1.50"), ("percentage", "19"), ("date", "20240229"), ("trim", "ab"):
+        front, back = text[: len(text) // 2], text[len(text) // 2 :]
+        for c in map(char, BLANKS):
+            both(leaf, c, c + text, text + c, c + text + c, c + c, c + c + text, text + c + c, front + c + back)
+            # Beside what only mode 0 trims.
+            for x in others:
+                both(leaf, c + x, x + c, c + x + text, x + c + text, text + c + x, text + x + c)
+        # All of them, in either order; inside; in other modes, which are as mode 1; and in what is not UTF-8.
+        every = "".join(map(char, BLANKS))
+        back_to_front = "".join(map(char, reversed(BLANKS)))
+        for mode in (0, 1, 2, 4294967295):
+            add(leaf, mode, every, every + text + back_to_front, back_to_front + text + every, front + every + back)
+            add(leaf, mode, *(x + text for x in others), every + "\\ff", every + text + "\\ff" + every)
+
+
 def orders():
     for n, text in (0, "a"), (1, "a"), (1, "aa"), (1, "ab"), (1, "ba"), (1, "aab"), (2, "aba"), (2, "abab"), (2, "abac"), (2, "acab"):
         add("same", n, text)
@@ -488,8 +512,8 @@ def lines():
 
 def main(words):
     for section in (
-        edges_of_document_01, empty_texts, amounts, signs_and_points, percentages, dates, utf8, trimming, orders, parts, digits,
-        currencies, points, booleans, vat, conformants, formats, rules, lines,
+        edges_of_document_01, empty_texts, amounts, signs_and_points, percentages, dates, utf8, trimming, blanks, orders,
+        parts, digits, currencies, points, booleans, vat, conformants, formats, rules, lines,
     ):
         section()
     chosen = list(dict.fromkeys(cases))

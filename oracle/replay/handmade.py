@@ -119,14 +119,24 @@ def dates(text, **attributes):
     return settlement(point, element("SpecifiedTradePaymentTerms", "", due))
 
 
+def around(space):
+    """Texts of each kind that mode 1 trims, with white space at an end, alone, and inside."""
+    for read, front, back in ((amounts, "1", ".50"), (rate, "1", "9"), (dates, "2024", "0229")):
+        for text in (space + front + back, front + back + space, space, front + space + back):
+            yield read(text)
+
+
 def modes():
-    for space in (" ", "\t", " \t ", "\n", "\r", NBSP, "\u2003", "\x0b", "\x1f", ""):
-        for tree in (amounts(space + "1.50"), amounts("1.50" + space), amounts(space), rate(space + "19"), rate(space)):
+    # XML Schema's four characters, mixed; what only mode 0 trims, alone and beside them; what no mode does
+    blank = " ", "\t", "\n", "\r", " \t ", "\r\n", "\n\r\t "
+    others = NBSP, "\x0b", "\x85"
+    beside = (pair for other in others for pair in (other + "\n", "\r" + other))
+    for space in (*blank, *others, *beside, "\u2003", "\x1f", ""):
+        for tree in around(space):
             yield 1, 4095, laid(tree)
-        yield 1, 4095, laid(dates("20240229" + space))
-        yield 1, 4095, laid(dates(space))
     # texts of another kind keep the trim of mode 0
-    yield 1, 0, laid(amounts("1", currencyID=NBSP + "EUR\n"))
+    yield 1, 0, laid(amounts("\n1", currencyID=NBSP + "EUR\n"))
+    yield 1, 0, laid(dates("20240229\n", format="102\n"))
     yield 1, 0, laid(settlement(element("InvoiceCurrencyCode", NBSP + "EUR" + NBSP), element("PaymentReference", "\n")))
     indicator = element("ChargeIndicator", "", element("Indicator", "\ntrue" + NBSP))
     tax = element("CategoryTradeTax", "", element("TypeCode", NBSP + "vat"), element("CategoryCode", "\nS"))
@@ -427,8 +437,9 @@ def changes(tree):
     # and so are groups: those of the settlement, and those below them
     yield 0, settlement(*other_case(tree[3]))
     yield 0, settlement(*((*kid[:3], other_case(kid[3])) for kid in tree[3]))
-    # mode 1 trims amounts, percentages and dates less, and all else as mode 0
+    # mode 1 trims amounts, percentages and dates less, and all else as mode 0; each text on a line of its own
     yield 1, each(lambda leaf: [padded(leaf)])
+    yield 1, each(lambda leaf: [(leaf[0], "\r\n" + leaf[1] + "\r\n", *leaf[2:])])
 
 
 def wholes():

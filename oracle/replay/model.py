@@ -1,5 +1,6 @@
 #!/usr/bin/env python3
-"""A reader of tables, written from document 01 and docs/DECISIONS.md: answers that the Rust cannot give.
+"""A reader of tables, written from document 01, the change requests and docs/DECISIONS.md: answers that the
+Rust cannot give.
 
     python3 oracle/replay/model.py FOLDER    runs it on FOLDER/stdin and compares with FOLDER/stdout
 
@@ -26,6 +27,8 @@ RULES = ["BR-%d" % n for n in (12, 13, 14, 15, 31, 32, 36, 37, 45, 46, 47, 55)]
 REQUIRED = dict(zip(("BT-%d" % n for n in (106, 109, 112, 115, 92, 95, 99, 102, 116, 117, 118, 25)), RULES))
 SPACES = [*range(9, 14), 32, 0x85, 0xA0, 0x1680, *range(0x2000, 0x200B), 0x2028, 0x2029, 0x202F, 0x205F, 0x3000]
 WHITE = "".join(map(chr, SPACES))
+# what XML Schema's collapse takes from the ends (change request R-1)
+BLANKS = "\t\n\r "
 
 
 # ---- refusals
@@ -186,7 +189,7 @@ class Reading:
 
     def own(self, e):
         """The text of an amount, percentage or date, trimmed as the mode does."""
-        return e.text.strip(WHITE if self.mode == 0 else " \t")
+        return e.text.strip(WHITE if self.mode == 0 else BLANKS)
 
     def missing(self, path, term):
         rule = REQUIRED[term.split("/")[-1]]

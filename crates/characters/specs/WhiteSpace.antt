@@ -22,11 +22,11 @@ whiteSpaces =
 unfoldable pub whiteSpace : ℕ → Bool
 whiteSpace c = inRanges c whiteSpaces
 
--- tab and space, all that mode 1 trims (document 01, "From the tree to the table")
+-- tab and line feed, carriage return, space: what `collapse` takes from a text's ends (XML Schema part 2, 4.3.6)
 unfoldable pub blank : ℕ → Bool
-blank c = eqb c 0x9 || eqb c 0x20
+blank c = inRanges c ((0x9, 0xA) ∷ (0xD, 0xD) ∷ (0x20, 0x20) ∷ [])
 
--- mode 0 trims White_Space, any other tab and space
+-- mode 0 trims White_Space, any other what is blank (change request R-1)
 unfoldable pub white : ℕ → ℕ → Bool
 white mode c = cond (eqb mode 0) (whiteSpace c) (blank c)
 

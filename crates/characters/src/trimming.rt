@@ -1,4 +1,4 @@
-// Trimming, as Rust's `str::trim` (mode 0) or of space and tab alone (mode 1).
+// Trimming, as Rust's `str::trim` (mode 0) or as XML Schema's `collapse` does it at the ends (mode 1).
 ghost use mathlib.Core.Path.{_≡_};
 ghost use Rattle.characters.specs.Trim.{trimmed, trimOf};
 ghost use Rattle.characters.specs.TrimWalk.{widened, graphic};

@@ -1,4 +1,4 @@
-// White space: Unicode's White_Space in mode 0, space and tab in mode 1 (and any other number).
+// White space: Unicode's White_Space in mode 0, XML Schema's four characters in mode 1 (and any other number).
 ghost use mathlib.Core.Path.{_≡_};
 ghost use Rattle.characters.specs.WhiteSpace.{whiteSpace, blank, white, trims};
 use crate::utf8::Char;
@@ -45,15 +45,17 @@ fn is_white_space(c: u32) -> bool
     is_within(c, 0x3000, 0x3000)
 }
 
-// Whether c is a space or a tab.
+// Whether c is a tab, a line feed, a carriage return or a space.
 fn is_blank(c: u32) -> bool
     ensures { λ r. ⌜ r ≡ blank c ⌝ }
 {
-    let tab = c == 0x9;
-    if tab {
+    if is_within(c, 0x9, 0xA) {
         return true;
     }
-    c == 0x20
+    if is_within(c, 0xD, 0xD) {
+        return true;
+    }
+    is_within(c, 0x20, 0x20)
 }
 
 // Whether the mode trims the code point c.

@@ -10,9 +10,10 @@ use Rattle.text.specs.Span.{cut, clipped}
 use Rattle.text.specs.Utf8.{encode, bytes}
 use Rattle.characters.specs.Trim.{allWhite, before, through, keptOf, trimmed, trimOf}
 use Rattle.characters.specs.Characters.{tail, scalar, two, three, four, charOf, front, chars, allGood, utf8}
-use Rattle.characters.specs.WhiteSpace.{inRanges, whiteSpaces, whiteSpace, white}
+use Rattle.characters.specs.WhiteSpace.{inRanges, whiteSpaces, whiteSpace, blank, white}
 use Rattle.amount.specs.Amount.{hundredths, inRange, amountOf as amountIn, parsedAmount}
 use Rattle.amount.specs.Decimal.{negative, unsigned, digitsOf, pastDigits, pointed, pastPoint, whole, fraction, decimal, signed}
+use Rattle.amount.specs.Percentage.{percentageOf, parsedPercentage}
 use Rattle.date.specs.Date.{leap, days, isDay, year, month, day, eightDigits, dateOf, parsedDate}
 use Rattle.codes.specs.Boolean.{literals, booleanOf}
 use Rattle.codes.specs.CodeList.{meaning}
@@ -26,7 +27,7 @@ use Rattle.report.specs.Encoding.{tidy, heldRow, unmappedRow, rowsOf}
 use Rattle.report.specs.Rows.{transfer}
 use Rattle.settlement.specs.Kinds.{sameKind, home, meant, kinds, kindNamed}
 use Rattle.settlement.specs.Shapes.{transfers, noTotals}
-use Rattle.settlement.specs.Values.{entry, amountMessage, dateMessage, trimIn, filled, textIn, ownText, textBytes, first, kid, kidText, attribute, missing, answered, dateFrom, dateIn, date, parsed, wrongCurrency, inCurrency, amountFrom, amountOf, amount, requiredAmount, requiredCode, percent, notVat}
+use Rattle.settlement.specs.Values.{entry, amountMessage, dateMessage, trimIn, filled, textIn, ownText, textBytes, first, kid, kidText, attribute, missing, answered, dateFrom, dateIn, date, parsed, wrongCurrency, inCurrency, amountFrom, amountOf, amount, requiredAmount, requiredCode, percentOf, percent, notVat}
 use Rattle.settlement.specs.Tax.{pointDate, pointCode, tradeTaxOf, indicated, indicator, isCharge, counted, categoryOf, allowanceChargeOf, allowanceOrCharge}
 use Rattle.settlement.specs.Payments.{withMeans, firstMeans, parts, partOf, accountOf, joined, creditor, part, paying, payingStart, paid, paymentMeansOf}
 use Rattle.settlement.specs.Summation.{sums, sumOf, isCurrency, withVat, taxIn, taxAmount, taxTotalOf, summand, summing, summed, totals}
@@ -101,7 +102,7 @@ same-shown = same-settlement lent exampleRoom exampleRoom exampleTable exampleTe
 
 -- all worked examples
 pub examples-hold : Examples allRules
-unfolding digit allDigits number cut equal bytes encode utf8 chars front charOf two three four tail scalar allGood within inRanges whiteSpaces whiteSpace white allWhite before through keptOf trimmed trimOf hundredths inRange amountIn parsedAmount negative unsigned digitsOf pastDigits pointed pastPoint whole fraction decimal signed leap days isDay year month day eightDigits dateOf parsedDate among currencyCodes listed meaning literals booleanOf dateFormat sameKind home meant kinds kindNamed entry amountMessage dateMessage trimIn filled textIn ownText textBytes first kid kidText attribute missing answered dateFrom dateIn date parsed wrongCurrency inCurrency amountFrom amountOf amount requiredAmount requiredCode percent notVat bit inForce pointDate pointCode tradeTaxOf indicated indicator isCharge counted categoryOf allowanceChargeOf allowanceOrCharge parts partOf accountOf joined creditor withMeans firstMeans part paying payingStart paid paymentMeansOf sums sumOf isCurrency withVat taxIn taxAmount taxTotalOf summand summing summed totals said quiet periodOf paymentTermsOf own kindOf soFar unseen seen act step saysOf holdsOf besides debited debitOf lateOf termsOf after readingOf reading treeDoc
+unfolding digit allDigits number cut equal bytes encode utf8 chars front charOf two three four tail scalar allGood within inRanges whiteSpaces whiteSpace blank white allWhite before through keptOf trimmed trimOf hundredths inRange amountIn parsedAmount negative unsigned digitsOf pastDigits pointed pastPoint whole fraction decimal signed percentageOf parsedPercentage leap days isDay year month day eightDigits dateOf parsedDate among currencyCodes listed meaning literals booleanOf dateFormat sameKind home meant kinds kindNamed entry amountMessage dateMessage trimIn filled textIn ownText textBytes first kid kidText attribute missing answered dateFrom dateIn date parsed wrongCurrency inCurrency amountFrom amountOf amount requiredAmount requiredCode percentOf percent notVat bit inForce pointDate pointCode tradeTaxOf indicated indicator isCharge counted categoryOf allowanceChargeOf allowanceOrCharge parts partOf accountOf joined creditor withMeans firstMeans part paying payingStart paid paymentMeansOf sums sumOf isCurrency withVat taxIn taxAmount taxTotalOf summand summing summed totals said quiet periodOf paymentTermsOf own kindOf soFar unseen seen act step saysOf holdsOf besides debited debitOf lateOf termsOf after readingOf reading treeDoc
 examples-hold =
     record {
       currencies = refl;
@@ -116,4 +117,7 @@ examples-hold =
       unreadable-bt5 = (refl, refl);
       unreadable-bt6 = (refl, refl);
       unreadable-both = refl;
+      line-ends = refl;
+      line-ends-rows = refl;
+      line-ends-totals = refl;
     }

@@ -1,5 +1,6 @@
--- Worked examples of document 01's rules, as equations about the definitions, and the example of "The printed reading" with its table.
+-- Worked examples of document 01's rules and of the requests that changed them, as equations about the definitions, and the example of "The printed reading" with its table.
 use mathlib.Core.Path.{_≡_}
+use mathlib.Core.Bool.{false}
 use mathlib.Core.List.{List, [], _∷_}
 use mathlib.Core.Option.{Option, none, some}
 use Prim.Native.Nat.{ℕ}
@@ -10,7 +11,7 @@ use Rattle.names.specs.declared.message.Message.the-variants as Message
 use Rattle.names.specs.declared.path.Path.the-variants as Path
 use Rattle.names.specs.declared.term.Term.the-variants as Term
 use Rattle.report.specs.Encoding.{absent, filled}
-use Rattle.report.specs.Rows.{transfer, allowance}
+use Rattle.report.specs.Rows.{transfer, vat, allowance}
 use Rattle.settlement.specs.Shapes.{Totals, Reading}
 use Rattle.settlement.specs.Values.{Lent, site, grouped, entry}
 use Rattle.settlement.specs.Settlement.{reading}
@@ -79,6 +80,15 @@ totalsWith bt6 l = readingWith (leaf "InvoiceCurrencyCode" "EUR" ∷ leaf "TaxCu
 abbrev pub badIndicator : List Tree
 badIndicator = branch "SpecifiedTradeAllowanceCharge" (branch "ChargeIndicator" (leaf "Indicator" "yes" ∷ []) ∷ leaf "ActualAmount" "5" ∷ []) ∷ []
 
+-- the reading under the input `1 256 EUR -`, mode 1 with BR-45 in force, of numbers on lines of their own, and of a required amount, an optional one and a date that are line ends alone
+abbrev pub readingOfLines : Reading (List ℕ)
+readingOfLines =
+    reading (record { mode = 1; rules = 256; currency = bytes "EUR"; extension = false }) treeDoc
+    (settlement
+    (branch "ApplicableTradeTax" (leaf "BasisAmount" "\n" ∷ leaf "CalculatedAmount" "\r\n19.00\r\n" ∷ leaf "CategoryCode" "S" ∷ leaf "RateApplicablePercent" "\n19\t\n" ∷ []) ∷
+    branch "SpecifiedTradePaymentTerms" (branch "DueDateDateTime" (leaf "DateTimeString" "\r\n" ∷ []) ∷ []) ∷
+    branch "SpecifiedTradeSettlementHeaderMonetarySummation" (leaf "ChargeTotalAmount" "\n1\r\n" ∷ leaf "RoundingAmount" "\n" ∷ []) ∷ []))
+
 -- each with the rule that it shows; L has all rules in force
 pub record Examples (L : Lent) : Type 0 where
   -- 1, a currencyID that is not listed; 2, one that is not the invoice's
@@ -113,3 +123,9 @@ pub record Examples (L : Lent) : Type 0 where
   -- where BT-5 and BT-6 are the same it makes BT-111 blank, and BT-110, which is not blank, stays
   pub unreadable-both : totalsWith "EUR" (inCurrency "EUR" "TaxTotalAmount" "10.00" ∷ inCurrency "EUR" "TaxTotalAmount" "x" ∷ []) ≡
       record { line = pos 0; allowance = none; charge = none; taxable = pos 0; vat = some (pos 1000); vatAccounting = none; gross = pos 0; paid = none; rounding = none; due = pos 0 }
+  -- R-1: in mode 1 line ends are trimmed, and what is left of them alone is nothing: a required amount is missing (9), a date has an empty value (12)
+  pub line-ends : readingOfLines .entries ≡
+      entry Message.Missing (grouped Path.SettlementTradeTax Term.Bt116 0) none ∷ entry Message.NotCcyymmdd (site Path.PaymentTermsDueDateTimeString Term.None) (some []) ∷ []
+  pub line-ends-rows : readingOfLines .held ≡ vat (record { taxable = pos 0; tax = pos 1900; category = bytes "S"; rate = some (pos 19, 0); reason = none; code = none }) ∷ []
+  pub line-ends-totals : readingOfLines .terms .totals ≡
+      record { line = pos 0; allowance = none; charge = some (pos 100); taxable = pos 0; vat = none; vatAccounting = none; gross = pos 0; paid = none; rounding = none; due = pos 0 }

@@ -58,6 +58,18 @@ impl Tree {
         a != b && !ORDERED.contains(&[a, b]) && !ORDERED.contains(&[b, a])
     }
 
+    /// The tree with each white space of its texts made one that XML Schema knows, a tab, line feed,
+    /// carriage return or space: these modes 0 and 1 trim alike.
+    pub fn schema_spaced(&self) -> Self {
+        let spaced = |c: char| if c.is_whitespace() { ['\t', '\n', '\r', ' '][c as usize % 4] } else { c };
+        Self {
+            name: self.name.clone(),
+            attributes: self.attributes.clone(),
+            text: self.text.chars().map(spaced).collect(),
+            children: self.children.iter().map(Self::schema_spaced).collect(),
+        }
+    }
+
     /// The tree after the children `i` and `i + 1` changed places.
     pub fn exchanged(&self, i: usize) -> Self {
         let mut tree = self.clone();

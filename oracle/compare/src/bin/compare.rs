@@ -1,10 +1,11 @@
 //! `compare [DOCUMENTS [EXCHANGED [SEED]]]` reads made-up settlements with the published Rust and with
-//! the proved reader, in mode 0, and compares the readings; then it exchanges neighbouring children in
-//! the first EXCHANGED documents and compares the proved reader's readings with each other. It ends
-//! with 1 where anything differs.
+//! the proved reader, in mode 0, and compares the readings; so it does in mode 1 where their texts have
+//! no other white space than XML Schema's, which both modes trim. Then it exchanges neighbouring
+//! children in the first EXCHANGED documents and compares the proved reader's readings with each other.
+//! It ends with 1 where anything differs.
 
 use compare::generate::{self, Document};
-use compare::library::{self, Refusal};
+use compare::library::{self, Lent, Refusal};
 use compare::random::Random;
 use compare::reading::Reading;
 use compare::smallest::smallest;
@@ -54,13 +55,26 @@ impl Run {
         let mut random = Random::new(!seed);
         let ours = read(&tree, &d, &mut random);
         if let Some(difference) = differs(&theirs, &ours) {
-            self.different(seed, &difference, &tree, &d);
+            self.different(seed, &difference, &tree, &d, 0);
         }
+        self.in_mode_1(seed, &tree, &d, &mut random);
         self.tally.note(&theirs);
         self.records += tree.records();
         self.large += usize::from(tree.records() > 256);
         if exchange && let Ok(reading) = &ours {
             self.exchanges_of(seed, &tree, &d, reading, &mut random);
+        }
+    }
+
+    /// Mode 1, where the texts of `tree` have no other white space than XML Schema's.
+    fn in_mode_1(&mut self, seed: u64, tree: &Tree, d: &Document, random: &mut Random) {
+        let xml = markup::plain(&tree.schema_spaced());
+        let xml = published::parse(&xml);
+        let node = published::find(&xml);
+        let tree = Tree::of(node);
+        let ours = library::reading(&layout::any(&tree, random), Lent { mode: 1, ..lent(d) });
+        if let Some(difference) = differs(&published::reading(node, d), &ours) {
+            self.different(seed, &difference, &tree, d, 1);
         }
     }
 
@@ -82,9 +96,9 @@ impl Run {
         }
     }
 
-    fn different(&mut self, seed: u64, difference: &str, tree: &Tree, d: &Document) {
+    fn different(&mut self, seed: u64, difference: &str, tree: &Tree, d: &Document, mode: u32) {
         self.differences += 1;
-        println!("seed {seed}: {difference}");
+        println!("seed {seed}, mode {mode}: {difference}");
         if self.differences > SHRUNK || tree.records() > SHRUNK_RECORDS {
             return;
         }
@@ -93,7 +107,7 @@ impl Run {
             let xml = markup::plain(tree);
             let xml = published::parse(&xml);
             let theirs = published::reading(published::find(&xml), d);
-            differs(&theirs, &library::reading(&layout::plain(tree), compare::lent(d)))
+            differs(&theirs, &library::reading(&layout::plain(tree), Lent { mode, ..compare::lent(d) }))
         };
         match plain(tree) {
             Some(_) => {
