@@ -127,11 +127,12 @@ def around(space):
 
 
 def modes():
-    # XML Schema's four characters, mixed; what only mode 0 trims, alone and beside them; what no mode does
+    # XML Schema's four characters, alone and mixed; what only mode 0 trims, beside them and alone; what no
+    # mode does
     blank = " ", "\t", "\n", "\r", " \t ", "\r\n", "\n\r\t "
     others = NBSP, "\x0b", "\x85"
     beside = (pair for other in others for pair in (other + "\n", "\r" + other))
-    for space in (*blank, *others, *beside, "\u2003", "\x1f", ""):
+    for space in (*blank, *beside, *others, "\x0c", "\u2003", "\u2028", "\x1f", ""):
         for tree in around(space):
             yield 1, 4095, laid(tree)
     # texts of another kind keep the trim of mode 0

@@ -26,7 +26,7 @@ whiteSpace c = inRanges c whiteSpaces
 unfoldable pub blank : ℕ → Bool
 blank c = inRanges c ((0x9, 0xA) ∷ (0xD, 0xD) ∷ (0x20, 0x20) ∷ [])
 
--- mode 0 trims White_Space, any other what is blank (change request R-1)
+-- mode 0 trims White_Space, any other what is blank (document 01, "From the tree to the table"; R-1)
 unfoldable pub white : ℕ → ℕ → Bool
 white mode c = cond (eqb mode 0) (whiteSpace c) (blank c)
 
