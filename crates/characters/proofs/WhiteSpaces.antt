@@ -1,11 +1,12 @@
 -- Laws of white space.
 use mathlib.Core.Path.{_≡_, refl, sym, _∙_}
-use mathlib.Core.Bool.{Bool, true, false, cond}
-use Prim.Native.Nat.{ℕ, _≤_}
+use mathlib.Core.Bool.{Bool, true, false, cond, _||_, or-self}
+use Prim.Native.Nat.{ℕ, _≤_, suc}
 use native.Mathlib.Omega.{arith}
+use borrow.Author.Tests.{eqb-true, eqb-false}
 use lib.Dec.{eqb}
 use Rattle.text.specs.Range.{within}
-use Rattle.text.proofs.Ranges.{within-range, within-below, within-above}
+use Rattle.text.proofs.Ranges.{within-range, within-yes, within-below, within-above}
 use Rattle.characters.specs.WhiteSpace.{inRanges, whiteSpaces, whiteSpace, blank, white}
 
 -- nothing from 21 to 84 is White_Space
@@ -18,10 +19,28 @@ not-space c h h′ =
 pub graph-space : (b : Bool) (c : ℕ) → b ≡ within c 0x21 0x84 → b ≡ true → false ≡ whiteSpace c
 graph-space b c e f = let r = within-range c 0x21 0x84 (sym e ∙ f) in sym (not-space c (r .0) (r .1))
 
--- and nothing from 21 on is blank
+module _ (c : ℕ) where
+  -- a range of one or two numbers has its ends alone
+  within-ends : (first last : ℕ) → first ≤ last → last ≤ suc first → within c first last ≡ (eqb c first || eqb c last)
+  within-ends first last h h′ = go (eqb c first) (eqb c last) refl refl
+    where
+      outside : (b : Bool) → within c first last ≡ b → (c ≡ first → ⊥) → (c ≡ last → ⊥) → within c first last ≡ false
+      outside true e f g = let r = within-range c first last e in absurd (omega (arith, r .0, r .1))
+      outside false e f g = e
+
+      go : (p q : Bool) → eqb c first ≡ p → eqb c last ≡ q → within c first last ≡ (p || q)
+      go true q e f = let k = eqb-true c first e in within-yes c first last (omega arith) (omega arith)
+      go false true e f = let k = eqb-true c last f in within-yes c first last (omega arith) (omega arith)
+      go false false e f = outside (within c first last) refl (eqb-false c first e) (eqb-false c last f)
+
+  -- the four blanks as three ranges
+  pub blank-ranges : blank c ≡ (within c 0x9 0xA || within c 0xD 0xD || within c 0x20 0x20)
+  unfolding blank
+  blank-ranges = rw (within-ends 0x9 0xA (omega arith) (omega arith), within-ends 0xD 0xD (omega arith) (omega arith), within-ends 0x20 0x20 (omega arith) (omega arith), or-self (eqb c 0xD), or-self (eqb c 0x20))
+
+-- nothing from 21 on is blank
 not-blank : (c : ℕ) → 0x21 ≤ c → blank c ≡ false
-unfolding blank inRanges
-not-blank c h = rw (within-above c 0x9 0xA (omega arith), within-above c 0xD 0xD (omega arith), within-above c 0x20 0x20 (omega arith))
+not-blank c h = rw (blank-ranges c, within-above c 0x9 0xA (omega arith), within-above c 0xD 0xD (omega arith), within-above c 0x20 0x20 (omega arith))
 
 module _ (mode c : ℕ) where
   -- mode 0 asks for White_Space, any other for what is blank

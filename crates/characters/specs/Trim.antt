@@ -1,4 +1,4 @@
--- Trimming: Rust's `str::trim` in mode 0 (document 01, "From the tree to the table"), in any other what XML Schema's `collapse` does to the ends (R-1).
+-- Trimming: Rust's `str::trim` in mode 0 (document 01, "From the tree to the table"), else the ends of XML Schema's `collapse` (R-1).
 use mathlib.Core.Bool.{Bool, true, cond, _&&_}
 use mathlib.Core.List.{List, [], _∷_}
 use Prim.Native.Nat.{ℕ, _+_}

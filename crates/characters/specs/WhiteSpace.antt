@@ -22,9 +22,9 @@ whiteSpaces =
 unfoldable pub whiteSpace : ℕ → Bool
 whiteSpace c = inRanges c whiteSpaces
 
--- tab and line feed, carriage return, space: what `collapse` takes from a text's ends (XML Schema part 2, 4.3.6)
+-- tab, line feed, carriage return, space: what `collapse` takes from a text's ends (XML Schema part 2, 4.3.6)
 unfoldable pub blank : ℕ → Bool
-blank c = inRanges c ((0x9, 0xA) ∷ (0xD, 0xD) ∷ (0x20, 0x20) ∷ [])
+blank c = eqb c 0x9 || eqb c 0xA || eqb c 0xD || eqb c 0x20
 
 -- mode 0 trims White_Space, any other what is blank (document 01, "From the tree to the table"; R-1)
 unfoldable pub white : ℕ → ℕ → Bool

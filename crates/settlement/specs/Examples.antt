@@ -80,12 +80,13 @@ totalsWith bt6 l = readingWith (leaf "InvoiceCurrencyCode" "EUR" ∷ leaf "TaxCu
 abbrev pub badIndicator : List Tree
 badIndicator = branch "SpecifiedTradeAllowanceCharge" (branch "ChargeIndicator" (leaf "Indicator" "yes" ∷ []) ∷ leaf "ActualAmount" "5" ∷ []) ∷ []
 
--- the reading under the input `1 256 EUR -`, mode 1 with BR-45 in force, of numbers on lines of their own, and of a required amount, an optional one and a date that are line ends alone
+-- under the input `1 256 EUR -` (mode 1, BR-45 in force): numbers on lines of their own, and line ends alone as a required amount, an optional one, a rate and a date
 abbrev pub readingOfLines : Reading (List ℕ)
 readingOfLines =
     reading (record { mode = 1; rules = 256; currency = bytes "EUR"; extension = false }) treeDoc
     (settlement
     (branch "ApplicableTradeTax" (leaf "BasisAmount" "\n" ∷ leaf "CalculatedAmount" "\r\n19.00\r\n" ∷ leaf "CategoryCode" "S" ∷ leaf "RateApplicablePercent" "\n19\t\n" ∷ []) ∷
+    branch "ApplicableTradeTax" (leaf "BasisAmount" "\n1" ∷ leaf "RateApplicablePercent" "\r\n" ∷ []) ∷
     branch "SpecifiedTradePaymentTerms" (branch "DueDateDateTime" (leaf "DateTimeString" "\r\n" ∷ []) ∷ []) ∷
     branch "SpecifiedTradeSettlementHeaderMonetarySummation" (leaf "ChargeTotalAmount" "\n1\r\n" ∷ leaf "RoundingAmount" "\n" ∷ []) ∷ []))
 
@@ -123,9 +124,9 @@ pub record Examples (L : Lent) : Type 0 where
   -- where BT-5 and BT-6 are the same it makes BT-111 blank, and BT-110, which is not blank, stays
   pub unreadable-both : totalsWith "EUR" (inCurrency "EUR" "TaxTotalAmount" "10.00" ∷ inCurrency "EUR" "TaxTotalAmount" "x" ∷ []) ≡
       record { line = pos 0; allowance = none; charge = none; taxable = pos 0; vat = some (pos 1000); vatAccounting = none; gross = pos 0; paid = none; rounding = none; due = pos 0 }
-  -- R-1: in mode 1 line ends are trimmed, and what is left of them alone is nothing: a required amount is missing (9), a date has an empty value (12)
+  -- R-1: in mode 1 line ends are trimmed, and of line ends alone nothing is left: a required amount is missing (9), an optional one and a rate are absent, a date has an empty value (12)
   pub line-ends : readingOfLines .entries ≡
       entry Message.Missing (grouped Path.SettlementTradeTax Term.Bt116 0) none ∷ entry Message.NotCcyymmdd (site Path.PaymentTermsDueDateTimeString Term.None) (some []) ∷ []
-  pub line-ends-rows : readingOfLines .held ≡ vat (record { taxable = pos 0; tax = pos 1900; category = bytes "S"; rate = some (pos 19, 0); reason = none; code = none }) ∷ []
+  pub line-ends-rows : readingOfLines .held ≡ vat (record { taxable = pos 0; tax = pos 1900; category = bytes "S"; rate = some (pos 19, 0); reason = none; code = none }) ∷ vat (record { taxable = pos 100; tax = pos 0; category = []; rate = none; reason = none; code = none }) ∷ []
   pub line-ends-totals : readingOfLines .terms .totals ≡
       record { line = pos 0; allowance = none; charge = some (pos 100); taxable = pos 0; vat = none; vatAccounting = none; gross = pos 0; paid = none; rounding = none; due = pos 0 }

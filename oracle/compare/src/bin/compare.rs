@@ -66,7 +66,7 @@ impl Run {
         }
     }
 
-    /// Mode 1, where the texts of `tree` have no other white space than XML Schema's.
+    /// Mode 1, on `tree` with XML Schema's white space in place of all other.
     fn in_mode_1(&mut self, seed: u64, tree: &Tree, d: &Document, random: &mut Random) {
         let xml = markup::plain(&tree.schema_spaced());
         let xml = published::parse(&xml);
