@@ -48,10 +48,13 @@ fn falling(i: u32) -> [u32; 6] {
 
 /// All of them.
 pub fn all() -> Vec<Worst> {
+    let digits = filled(&["0"], "0");
+    let after_a_comma = digits.replacen('0', ",", 1);
     let white = filled(MIXED_WHITE, " ");
     let (two_bytes, mixed) = (filled(&["ä"], "N"), filled(MIXED, "N"));
     vec![
-        over_one_text("4,094 tax totals of a million digits", &filled(&["0"], "0"), tax_total),
+        over_one_text("4,094 tax totals of a million digits", &digits, tax_total),
+        over_one_text("4,094 tax totals of a comma and a million digits", &after_a_comma, tax_total),
         over_one_text("4,094 tax totals of a million mixed bytes", &white, tax_total),
         over_one_text("the same before a stray byte", &white, tax_total).before_a_stray(),
         over_one_text("4,095 references of a million bytes of U+00A0", &filled(&["\u{A0}"], " "), reference),

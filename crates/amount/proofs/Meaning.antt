@@ -16,9 +16,9 @@ use Rattle.text.proofs.Bools.{both, nested}
 use Rattle.text.proofs.Digits.{number-append, all-append, number-below}
 use Rattle.characters.specs.Trim.{trimOf}
 use Rattle.amount.specs.declared.amount.ParsedAmount.{ParsedAmount}
-use Rattle.amount.specs.declared.amount.ParsedAmount.the-variants.{Empty, Malformed}
+use Rattle.amount.specs.declared.amount.ParsedAmount.the-variants as Parsed
 use Rattle.amount.specs.declared.decimal.Walk.{Walk}
-use Rattle.amount.specs.declared.decimal.Walk.the-variants.{Start, Whole, Fraction, Bad}
+use Rattle.amount.specs.declared.decimal.Walk.the-variants.{Nothing, Whole, Fraction, Malformed}
 use Rattle.amount.specs.declared.numeric.ParsedPercentage.{ParsedPercentage}
 use Rattle.amount.specs.declared.numeric.ParsedPercentage.the-variants as Rated
 use Rattle.amount.specs.Decimal.{empty, negative, unsigned, digitsOf, pastDigits, pointed, pastPoint, whole, fraction, decimal, signed}
@@ -26,6 +26,7 @@ use Rattle.amount.specs.Amount.{hundredths, inRange, amountOf, parsedAmo
 use Rattle.amount.specs.Percentage.{percentageOf, parsedPercentage}
 use Rattle.amount.specs.Answers.{amountAnswer, percentageAnswer}
 use Rattle.amount.specs.Walk.{cap, sat, wholeStep, fractionStep, startStep, run, ranged, padded, rated, counted, endOf, finishOf, rateOf}
+use Rattle.amount.proofs.Walks.{run-malformed}
 
 -- counts and sizes that stop
 sat-up : (K : ℕ) → sat (sat K + 1) ≡ sat (K + 1)
@@ -34,34 +35,29 @@ sat-up K = omega arith
 cap-push : (M d : ℕ) → cap (10 * cap M + d) ≡ cap (10 * M + d)
 cap-push M d = omega arith
 
-run-bad : (s : List ℕ) → run Bad s ≡ Bad
-unfolding run
-run-bad [] = refl
-run-bad (b ∷ s) = run-bad s
-
 -- the walk over a fraction, after K digits, P decimals and the size M
 run-fraction :
     (f : List ℕ) (g : Bool) (K P M : ℕ) →
-    run (Fraction g (sat K) (sat P) (cap M)) f ≡ cond (allDigits f) (Fraction g (sat (K + length f)) (sat (P + length f)) (cap (number M f))) Bad
+    run (Fraction g (sat K) (sat P) (cap M)) f ≡ cond (allDigits f) (Fraction g (sat (K + length f)) (sat (P + length f)) (cap (number M f))) Malformed
 unfolding run allDigits number fractionStep
 run-fraction [] g K P M = rw (add-zero K, add-zero P)
 run-fraction (b ∷ f) g K P M = go (digit b) (run-fraction f g (K + 1) (P + 1) (10 * M + (b - 48)))
   where
     go : (d : Bool) →
         run (Fraction g (sat (K + 1)) (sat (P + 1)) (cap (10 * M + (b - 48)))) f ≡
-        cond (allDigits f) (Fraction g (sat (K + 1 + length f)) (sat (P + 1 + length f)) (cap (number (10 * M + (b - 48)) f))) Bad →
-        run (cond d (Fraction g (sat (sat K + 1)) (sat (sat P + 1)) (cap (10 * cap M + (b - 48)))) Bad) f ≡
-        cond (d && allDigits f) (Fraction g (sat (K + suc (length f))) (sat (P + suc (length f))) (cap (number (10 * M + (b - 48)) f))) Bad
+        cond (allDigits f) (Fraction g (sat (K + 1 + length f)) (sat (P + 1 + length f)) (cap (number (10 * M + (b - 48)) f))) Malformed →
+        run (cond d (Fraction g (sat (sat K + 1)) (sat (sat P + 1)) (cap (10 * cap M + (b - 48)))) Malformed) f ≡
+        cond (d && allDigits f) (Fraction g (sat (K + suc (length f))) (sat (P + suc (length f))) (cap (number (10 * M + (b - 48)) f))) Malformed
     go true r =
         let k : K + 1 + length f ≡ K + suc (length f) = omega arith in
         let p : P + 1 + length f ≡ P + suc (length f) = omega arith in
         rw (sat-up K, sat-up P, cap-push M (b - 48)) (rw (k, p) at r)
-    go false r = run-bad f
+    go false r = run-malformed f
 
 -- where the walk over a whole part of K digits and the size M comes to, by what follows it
 wholeEnd : Bool → ℕ → ℕ → List ℕ → Walk
 wholeEnd g K M [] = Whole g (sat K) (cap M)
-wholeEnd g K M (b ∷ f) = cond (eqb b 0x2E) (cond (allDigits f) (Fraction g (sat (K + length f)) (sat (length f)) (cap (number M f))) Bad) Bad
+wholeEnd g K M (b ∷ f) = cond (eqb b 0x2E) (cond (allDigits f) (Fraction g (sat (K + length f)) (sat (length f)) (cap (number M f))) Malformed) Malformed
 
 run-whole : (u : List ℕ) (g : Bool) (K M : ℕ) → run (Whole g (sat K) (cap M)) u ≡ wholeEnd g (K + length (digitsOf u)) (number M (digitsOf u)) (pastDigits u)
 unfolding run digitsOf pastDigits number wholeStep wholeEnd
@@ -70,17 +66,17 @@ run-whole (b ∷ u) g K M = go (digit b) (eqb b 0x2E) refl (run-whole u g (K + 1
   where
     go : (d q : Bool) → eqb b 0x2E ≡ q →
         run (Whole g (sat (K + 1)) (cap (10 * M + (b - 48)))) u ≡ wholeEnd g (K + 1 + length (digitsOf u)) (number (10 * M + (b - 48)) (digitsOf u)) (pastDigits u) →
-        run (Fraction g (sat K) (sat 0) (cap M)) u ≡ cond (allDigits u) (Fraction g (sat (K + length u)) (sat (0 + length u)) (cap (number M u))) Bad →
-        run (cond d (Whole g (sat (sat K + 1)) (cap (10 * cap M + (b - 48)))) (cond q (Fraction g (sat K) 0 (cap M)) Bad)) u ≡
+        run (Fraction g (sat K) (sat 0) (cap M)) u ≡ cond (allDigits u) (Fraction g (sat (K + length u)) (sat (0 + length u)) (cap (number M u))) Malformed →
+        run (cond d (Whole g (sat (sat K + 1)) (cap (10 * cap M + (b - 48)))) (cond q (Fraction g (sat K) 0 (cap M)) Malformed)) u ≡
         wholeEnd g (K + length (cond d (b ∷ digitsOf u) [])) (number M (cond d (b ∷ digitsOf u) [])) (cond d (pastDigits u) (b ∷ u))
     go true q e r f =
         let k : K + 1 + length (digitsOf u) ≡ K + suc (length (digitsOf u)) = omega arith in
         rw (sat-up K, cap-push M (b - 48)) (rw k at r)
     go false true e r f = rw (e, add-zero K) (rw zero-add at f)
-    go false false e r f = rw e (run-bad u)
+    go false false e r f = rw e (run-malformed u)
 
 -- where the walk over a text comes to
-run-start : (b : ℕ) (s : List ℕ) → let t = b ∷ s in run Start t ≡ wholeEnd (negative t) (length (whole t)) (number 0 (whole t)) (pastDigits (unsigned t))
+run-start : (b : ℕ) (s : List ℕ) → let t = b ∷ s in run Nothing t ≡ wholeEnd (negative t) (length (whole t)) (number 0 (whole t)) (pastDigits (unsigned t))
 unfolding startStep negative unsigned whole run
 run-start b s = go (eqb b 0x2D) (eqb b 0x2B)
   where
@@ -147,13 +143,13 @@ module _ {A : Type 0} (e b : A) (made : Bool → ℕ → ℕ → ℕ → A) wher
   by-rest g W [] = rw (add-zero (length W)) at (counted-is g W [])
   by-rest g W (c ∷ f) = go (eqb c 0x2E) (allDigits f)
     where
-      go : (p d : Bool) → endOf e b made (cond p (cond d (Fraction g (sat (length W + length f)) (sat (length f)) (cap (number (number 0 W) f))) Bad) Bad) ≡ cond (p && d) (cond (not (empty (W ++ f))) (parts g W f) b) b
+      go : (p d : Bool) → endOf e b made (cond p (cond d (Fraction g (sat (length W + length f)) (sat (length f)) (cap (number (number 0 W) f))) Malformed) Malformed) ≡ cond (p && d) (cond (not (empty (W ++ f))) (parts g W f) b) b
       go true true = counted-is g W f
       go true false = refl
       go false d = refl
 
   -- the walk over all of a text ends as its grammar says
-  end-run : (t : List ℕ) → endOf e b made (run Start t) ≡ cond (empty t) e (cond (decimal t) (parts (negative t) (whole t) (fraction t)) b)
+  end-run : (t : List ℕ) → endOf e b made (run Nothing t) ≡ cond (empty t) e (cond (decimal t) (parts (negative t) (whole t) (fraction t)) b)
   unfolding run decimal fraction whole
   end-run [] = refl
   end-run (c ∷ s) =
@@ -164,12 +160,12 @@ module _ {A : Type 0} (e b : A) (made : Bool → ℕ → ℕ → ℕ → A) wher
       nested (pointed R && allDigits (pastPoint R)) (not (empty (whole t ++ pastPoint R))) _ _
 
 -- the walk over all of a text ends in its amount
-pub finish-run : (t : List ℕ) → amountAnswer (finishOf (run Start t)) ≡ amountOf t
+pub finish-run : (t : List ℕ) → amountAnswer (finishOf (run Nothing t)) ≡ amountOf t
 unfolding parts amountOf hundredths verdict
-finish-run t = rw (end-run Empty Malformed (λ g k p m. padded g p m) t) (go (empty t) (decimal t))
+finish-run t = rw (end-run Parsed.Empty Parsed.Malformed (λ g k p m. padded g p m) t) (go (empty t) (decimal t))
   where
     go : (e d : Bool) →
-        amountAnswer (cond e Empty (cond d (padded (negative t) (sat (length (fraction t))) (cap (number 0 (whole t ++ fraction t)))) Malformed)) ≡
+        amountAnswer (cond e Parsed.Empty (cond d (padded (negative t) (sat (length (fraction t))) (cap (number 0 (whole t ++ fraction t)))) Parsed.Malformed)) ≡
         cond e silent (cond d (cond (leb (length (fraction t)) 2) (verdict (hundredths t)) (says 4)) (says 3))
     go true d = refl
     go false true = rw (number-append (whole t) 0 (fraction t), number-append (whole t) 0 (take 2 (fraction t ++ 48 ∷ 48 ∷ []))) (padded-is (negative t) (fraction t) (number 0 (whole t)))
@@ -215,13 +211,13 @@ rated-or t true e =
 rated-or t false e = rw e
 
 -- the walk over all of a text ends in its percentage
-pub rate-run : (t : List ℕ) → percentageAnswer (rateOf (run Start t)) ≡ percentageOf t
+pub rate-run : (t : List ℕ) → percentageAnswer (rateOf (run Nothing t)) ≡ percentageOf t
 unfolding run percentageOf decimal fraction whole unsigned pastDigits digitsOf pastPoint pointed allDigits
 rate-run [] = refl
 rate-run (b ∷ s) = let t = b ∷ s in ap percentageAnswer (end-run Rated.Malformed Rated.Malformed rated t) ∙ rated-or t (decimal t) refl
 
 -- the code of `parse_trimmed`, in its own terms: w is the walk over s, r its end
-module _ (s : List ℕ) (w : Walk) (ew : w ≡ run Start s) where
+module _ (s : List ℕ) (w : Walk) (ew : w ≡ run Nothing s) where
   pub amount-read : (r : ParsedAmount) → r ≡ finishOf w → amountAnswer r ≡ amountOf s
   amount-read r e = ap amountAnswer e ∙ rw ew (finish-run s)
 

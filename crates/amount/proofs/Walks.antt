@@ -1,7 +1,7 @@
 -- Laws of the walk: the turns of its loop, and a walk that is taken up again.
-use mathlib.Core.Path.{_≡_, refl, sym, _∙_}
-use mathlib.Core.Bool.{true}
-use mathlib.Core.List.{List, _++_, foldl-append}
+use mathlib.Core.Path.{_≡_, refl, sym, ap, _∙_}
+use mathlib.Core.Bool.{Bool, true}
+use mathlib.Core.List.{List, [], _∷_, _++_, foldl-append}
 use Prim.Native.Nat.{ℕ, _+_, _≤_, _<_}
 use native.Mathlib.Numerals.{add-one}
 use lib.ListN.{length, getD, drop, drop-of-length-le}
@@ -9,14 +9,30 @@ use lib.Seq.{drop-cons}
 use Rattle.text.specs.Digits.{digit}
 use Rattle.text.specs.Range.{within}
 use Rattle.amount.specs.declared.decimal.Walk.{Walk}
-use Rattle.amount.specs.Walk.{stepOf, run}
+use Rattle.amount.specs.declared.decimal.Walk.the-variants.{Nothing, Whole, Fraction, Malformed}
+use Rattle.amount.specs.Walk.{malformed, stepOf, run}
 
 pub zero-digit : digit 48 ≡ true
 unfolding digit within
 zero-digit = refl
 
--- the loop of a walk, from i on: a turn, and the end
+-- what is malformed stays so
+pub run-malformed : (s : List ℕ) → run Malformed s ≡ Malformed
+unfolding run
+run-malformed [] = refl
+run-malformed (b ∷ s) = run-malformed s
+
+left-at-once : (s : List ℕ) (w : Walk) → malformed w ≡ true → run w s ≡ Malformed
+left-at-once s Nothing h = cc
+left-at-once s (Whole g k m) h = cc
+left-at-once s (Fraction g k p m) h = cc
+left-at-once s Malformed h = run-malformed s
+
+-- the loop of a walk, from i on: left where the text is malformed, a turn, and the end
 module _ (s : List ℕ) (i : ℕ) (w₀ w : Walk) (e : run w₀ s ≡ run w (drop i s)) where
+  pub run-left : (b : Bool) → b ≡ malformed w → b ≡ true → Malformed ≡ run w₀ s
+  run-left b p q = sym (e ∙ left-at-once (drop i s) w (sym p ∙ q))
+
   pub run-on : i < length s → (v : Walk) → v ≡ stepOf w (getD s i 0) → run w₀ s ≡ run v (drop (i + 1) s)
   unfolding run
   run-on h v q = e ∙ rw (add-one, drop-cons s i 0, q)

@@ -4,3 +4,5 @@ pub mod Amount
 pub mod Percentage
 pub mod Answers
 pub mod Walk
+pub mod Pieces
+pub mod Examples

@@ -5,9 +5,9 @@ use Prim.Native.Nat.{ℕ, _+_, _*_, _-_, _^_, min}
 use lib.Dec.{ltb, leb, eqb}
 use Rattle.text.specs.Digits.{digit}
 use Rattle.amount.specs.declared.decimal.Walk.{Walk}
-use Rattle.amount.specs.declared.decimal.Walk.the-variants.{Start, Whole, Fraction, Bad}
+use Rattle.amount.specs.declared.decimal.Walk.the-variants.{Nothing, Whole, Fraction, Malformed}
 use Rattle.amount.specs.declared.amount.ParsedAmount.{ParsedAmount}
-use Rattle.amount.specs.declared.amount.ParsedAmount.the-variants.{Amount, Empty, Malformed, TooManyDecimals, OutOfRange}
+use Rattle.amount.specs.declared.amount.ParsedAmount.the-variants as Parsed
 use Rattle.amount.specs.declared.numeric.Percentage.{Percentage}
 use Rattle.amount.specs.declared.numeric.ParsedPercentage.{ParsedPercentage}
 use Rattle.amount.specs.declared.numeric.ParsedPercentage.the-variants as Rated
@@ -23,11 +23,11 @@ sat n = min n 19
 
 -- a byte more of a whole part: sign, digits, size
 unfoldable pub wholeStep : Bool → ℕ → ℕ → ℕ → Walk
-wholeStep g k m b = cond (digit b) (Whole g (sat (k + 1)) (cap (10 * m + (b - 48)))) (cond (eqb b 0x2E) (Fraction g k 0 m) Bad)
+wholeStep g k m b = cond (digit b) (Whole g (sat (k + 1)) (cap (10 * m + (b - 48)))) (cond (eqb b 0x2E) (Fraction g k 0 m) Malformed)
 
 -- a byte more of a fraction: sign, digits, decimals, size
 unfoldable pub fractionStep : Bool → ℕ → ℕ → ℕ → ℕ → Walk
-fractionStep g k p m b = cond (digit b) (Fraction g (sat (k + 1)) (sat (p + 1)) (cap (10 * m + (b - 48)))) Bad
+fractionStep g k p m b = cond (digit b) (Fraction g (sat (k + 1)) (sat (p + 1)) (cap (10 * m + (b - 48)))) Malformed
 
 -- the first byte
 unfoldable pub startStep : ℕ → Walk
@@ -35,10 +35,17 @@ startStep b = cond (eqb b 0x2D) (Whole true 0 0) (cond (eqb b 0x2B) (Whole false
 
 -- a byte more
 abbrev pub stepOf : Walk → ℕ → Walk
-stepOf Start b = startStep b
+stepOf Nothing b = startStep b
 stepOf (Whole g k m) b = wholeStep g k m b
 stepOf (Fraction g k p m) b = fractionStep g k p m b
-stepOf Bad b = Bad
+stepOf Malformed b = Malformed
+
+-- a byte was out of place
+abbrev pub malformed : Walk → Bool
+malformed Nothing = false
+malformed (Whole g k m) = false
+malformed (Fraction g k p m) = false
+malformed Malformed = true
 
 -- a walk over bytes, from a state
 unfoldable pub run : Walk → List ℕ → Walk
@@ -46,7 +53,7 @@ run w s = foldl stepOf w s
 
 -- an amount of a size in hundredths, where it is in range
 unfoldable pub ranged : Bool → ℕ → ParsedAmount
-ranged g m = cond g (cond (leb m (2 ^ 63)) (Amount (record { 0 = signed true m })) OutOfRange) (cond (ltb m (2 ^ 63)) (Amount (record { 0 = signed false m })) OutOfRange)
+ranged g m = cond g (cond (leb m (2 ^ 63)) (Parsed.Amount (record { 0 = signed true m })) Parsed.OutOfRange) (cond (ltb m (2 ^ 63)) (Parsed.Amount (record { 0 = signed false m })) Parsed.OutOfRange)
 
 -- a zero more
 abbrev pub push : ℕ → ℕ
@@ -54,7 +61,7 @@ push m = cap (10 * m + (48 - 48))
 
 -- a size with so many decimals, filled up to hundredths
 unfoldable pub padded : Bool → ℕ → ℕ → ParsedAmount
-padded g p m = cond (ltb 2 p) TooManyDecimals (cond (eqb p 2) (ranged g m) (cond (eqb p 1) (ranged g (push m)) (ranged g (push (push m)))))
+padded g p m = cond (ltb 2 p) Parsed.TooManyDecimals (cond (eqb p 2) (ranged g m) (cond (eqb p 1) (ranged g (push m)) (ranged g (push (push m)))))
 
 -- a percentage of at most 18 digits: sign, digits, decimals, size
 unfoldable pub rated : Bool → ℕ → ℕ → ℕ → ParsedPercentage
@@ -68,14 +75,14 @@ counted b k a = cond (eqb k 0) b a
 
 -- the end of a walk: e of no bytes, b of no decimal, else made of sign, digits, decimals and size
 abbrev pub endOf : {A : Type 0} → A → A → (Bool → ℕ → ℕ → ℕ → A) → Walk → A
-endOf e b made Start = e
+endOf e b made Nothing = e
 endOf e b made (Whole g k m) = counted b k (made g k 0 m)
 endOf e b made (Fraction g k p m) = counted b k (made g k p m)
-endOf e b made Bad = b
+endOf e b made Malformed = b
 
 -- as an amount
 abbrev pub finishOf : Walk → ParsedAmount
-finishOf w = endOf Empty Malformed (λ g k p m. padded g p m) w
+finishOf w = endOf Parsed.Empty Parsed.Malformed (λ g k p m. padded g p m) w
 
 -- and as a percentage
 abbrev pub rateOf : Walk → ParsedPercentage

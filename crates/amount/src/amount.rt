@@ -80,10 +80,10 @@ fn finish(w: Walk) -> ParsedAmount
     ensures { λ r. ⌜ r ≡ finishOf w ⌝ }
 {
     match w {
-        Walk::Start => ParsedAmount::Empty,
+        Walk::Nothing => ParsedAmount::Empty,
         Walk::Whole(negative, digits, size) => ended(negative, digits, 0, size),
         Walk::Fraction(negative, digits, decimals, size) => ended(negative, digits, decimals, size),
-        Walk::Bad => ParsedAmount::Malformed,
+        Walk::Malformed => ParsedAmount::Malformed,
     }
 }
 
@@ -99,7 +99,7 @@ impl InvoiceAmount {
     pub fn parse_trimmed(s: &[u8]) -> ParsedAmount
         ensures { λ r. ⌜ amountAnswer r ≡ amountOf (now (s .entry)) ⌝ }
     {
-        finish(walk_on(s, Walk::Start))
+        finish(walk_on(s, Walk::Nothing))
     }
 
     // The amount that s, trimmed in a mode, writes.

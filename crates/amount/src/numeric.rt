@@ -61,10 +61,10 @@ fn finish(w: Walk) -> ParsedPercentage
     ensures { λ r. ⌜ r ≡ rateOf w ⌝ }
 {
     match w {
-        Walk::Start => ParsedPercentage::Malformed,
+        Walk::Nothing => ParsedPercentage::Malformed,
         Walk::Whole(negative, digits, size) => ended(negative, digits, 0, size),
         Walk::Fraction(negative, digits, decimals, size) => ended(negative, digits, decimals, size),
-        Walk::Bad => ParsedPercentage::Malformed,
+        Walk::Malformed => ParsedPercentage::Malformed,
     }
 }
 
@@ -73,7 +73,7 @@ impl Percentage {
     pub fn parse_trimmed(s: &[u8]) -> ParsedPercentage
         ensures { λ r. ⌜ percentageAnswer r ≡ percentageOf (now (s .entry)) ⌝ }
     {
-        finish(walk_on(s, Walk::Start))
+        finish(walk_on(s, Walk::Nothing))
     }
 
     // The percentage that s, trimmed in a mode, writes.
