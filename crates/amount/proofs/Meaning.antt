@@ -35,19 +35,19 @@ sat-up K = omega arith
 cap-push : (M d : ℕ) → cap (10 * cap M + d) ≡ cap (10 * M + d)
 cap-push M d = omega arith
 
--- the walk over a fraction, after K digits, P decimals and the size M
+-- the walk over a fraction, after K digits of the size M, P of them decimals
 run-fraction :
-    (f : List ℕ) (g : Bool) (K P M : ℕ) →
-    run (Fraction g (sat K) (sat P) (cap M)) f ≡ cond (allDigits f) (Fraction g (sat (K + length f)) (sat (P + length f)) (cap (number M f))) Malformed
+    (f : List ℕ) (g : Bool) (K M P : ℕ) →
+    run (Fraction g (sat K) (cap M) (sat P)) f ≡ cond (allDigits f) (Fraction g (sat (K + length f)) (cap (number M f)) (sat (P + length f))) Malformed
 unfolding run allDigits number fractionStep
-run-fraction [] g K P M = rw (add-zero K, add-zero P)
-run-fraction (b ∷ f) g K P M = go (digit b) (run-fraction f g (K + 1) (P + 1) (10 * M + (b - 48)))
+run-fraction [] g K M P = rw (add-zero K, add-zero P)
+run-fraction (b ∷ f) g K M P = go (digit b) (run-fraction f g (K + 1) (10 * M + (b - 48)) (P + 1))
   where
     go : (d : Bool) →
-        run (Fraction g (sat (K + 1)) (sat (P + 1)) (cap (10 * M + (b - 48)))) f ≡
-        cond (allDigits f) (Fraction g (sat (K + 1 + length f)) (sat (P + 1 + length f)) (cap (number (10 * M + (b - 48)) f))) Malformed →
-        run (cond d (Fraction g (sat (sat K + 1)) (sat (sat P + 1)) (cap (10 * cap M + (b - 48)))) Malformed) f ≡
-        cond (d && allDigits f) (Fraction g (sat (K + suc (length f))) (sat (P + suc (length f))) (cap (number (10 * M + (b - 48)) f))) Malformed
+        run (Fraction g (sat (K + 1)) (cap (10 * M + (b - 48))) (sat (P + 1))) f ≡
+        cond (allDigits f) (Fraction g (sat (K + 1 + length f)) (cap (number (10 * M + (b - 48)) f)) (sat (P + 1 + length f))) Malformed →
+        run (cond d (Fraction g (sat (sat K + 1)) (cap (10 * cap M + (b - 48))) (sat (sat P + 1))) Malformed) f ≡
+        cond (d && allDigits f) (Fraction g (sat (K + suc (length f))) (cap (number (10 * M + (b - 48)) f)) (sat (P + suc (length f)))) Malformed
     go true r =
         let k : K + 1 + length f ≡ K + suc (length f) = omega arith in
         let p : P + 1 + length f ≡ P + suc (length f) = omega arith in
@@ -57,17 +57,17 @@ run-fraction (b ∷ f) g K P M = go (digit b) (run-fraction f g (K + 1) (P + 1) 
 -- where the walk over a whole part of K digits and the size M comes to, by what follows it
 wholeEnd : Bool → ℕ → ℕ → List ℕ → Walk
 wholeEnd g K M [] = Whole g (sat K) (cap M)
-wholeEnd g K M (b ∷ f) = cond (eqb b 0x2E) (cond (allDigits f) (Fraction g (sat (K + length f)) (sat (length f)) (cap (number M f))) Malformed) Malformed
+wholeEnd g K M (b ∷ f) = cond (eqb b 0x2E) (cond (allDigits f) (Fraction g (sat (K + length f)) (cap (number M f)) (sat (length f))) Malformed) Malformed
 
 run-whole : (u : List ℕ) (g : Bool) (K M : ℕ) → run (Whole g (sat K) (cap M)) u ≡ wholeEnd g (K + length (digitsOf u)) (number M (digitsOf u)) (pastDigits u)
 unfolding run digitsOf pastDigits number wholeStep wholeEnd
 run-whole [] g K M = rw (add-zero K)
-run-whole (b ∷ u) g K M = go (digit b) (eqb b 0x2E) refl (run-whole u g (K + 1) (10 * M + (b - 48))) (run-fraction u g K 0 M)
+run-whole (b ∷ u) g K M = go (digit b) (eqb b 0x2E) refl (run-whole u g (K + 1) (10 * M + (b - 48))) (run-fraction u g K M 0)
   where
     go : (d q : Bool) → eqb b 0x2E ≡ q →
         run (Whole g (sat (K + 1)) (cap (10 * M + (b - 48)))) u ≡ wholeEnd g (K + 1 + length (digitsOf u)) (number (10 * M + (b - 48)) (digitsOf u)) (pastDigits u) →
-        run (Fraction g (sat K) (sat 0) (cap M)) u ≡ cond (allDigits u) (Fraction g (sat (K + length u)) (sat (0 + length u)) (cap (number M u))) Malformed →
-        run (cond d (Whole g (sat (sat K + 1)) (cap (10 * cap M + (b - 48)))) (cond q (Fraction g (sat K) 0 (cap M)) Malformed)) u ≡
+        run (Fraction g (sat K) (cap M) (sat 0)) u ≡ cond (allDigits u) (Fraction g (sat (K + length u)) (cap (number M u)) (sat (0 + length u))) Malformed →
+        run (cond d (Whole g (sat (sat K + 1)) (cap (10 * cap M + (b - 48)))) (cond q (Fraction g (sat K) (cap M) 0) Malformed)) u ≡
         wholeEnd g (K + length (cond d (b ∷ digitsOf u) [])) (number M (cond d (b ∷ digitsOf u) [])) (cond d (pastDigits u) (b ∷ u))
     go true q e r f =
         let k : K + 1 + length (digitsOf u) ≡ K + suc (length (digitsOf u)) = omega arith in
@@ -114,7 +114,7 @@ ranged-is false n =
 -- the padding of a fraction f after a whole part N
 padded-is :
     (g : Bool) (f : List ℕ) (N : ℕ) →
-    amountAnswer (padded g (sat (length f)) (cap (number N f))) ≡ cond (leb (length f) 2) (verdict (signed g (number N (take 2 (f ++ 48 ∷ 48 ∷ []))))) (says 4)
+    amountAnswer (padded g (cap (number N f)) (sat (length f))) ≡ cond (leb (length f) 2) (verdict (signed g (number N (take 2 (f ++ 48 ∷ 48 ∷ []))))) (says 4)
 unfolding padded number
 padded-is g [] N = rw (cap-push N 0, cap-push (10 * N + 0) 0) (ranged-is g (10 * (10 * N + 0) + 0))
 padded-is g (x ∷ []) N = rw (cap-push (10 * N + (x - 48)) 0) (ranged-is g (10 * (10 * N + (x - 48)) + 0))
@@ -128,9 +128,9 @@ none-is (x ∷ s) = ne-eqb (sat (suc (length s))) 0 (λ e. omega arith)
 -- the end of a walk, by what follows the whole part W: made of W and the fraction, where there is a digit, or b
 module _ {A : Type 0} (e b : A) (made : Bool → ℕ → ℕ → ℕ → A) where
   parts : Bool → List ℕ → List ℕ → A
-  parts g W f = made g (sat (length (W ++ f))) (sat (length f)) (cap (number 0 (W ++ f)))
+  parts g W f = made g (sat (length (W ++ f))) (cap (number 0 (W ++ f))) (sat (length f))
 
-  counted-is : (g : Bool) (W f : List ℕ) → counted b (sat (length W + length f)) (made g (sat (length W + length f)) (sat (length f)) (cap (number (number 0 W) f))) ≡ cond (not (empty (W ++ f))) (parts g W f) b
+  counted-is : (g : Bool) (W f : List ℕ) → counted b (sat (length W + length f)) (made g (sat (length W + length f)) (cap (number (number 0 W) f)) (sat (length f))) ≡ cond (not (empty (W ++ f))) (parts g W f) b
   unfolding counted parts
   counted-is g W f = rw (← length-append W f, ← number-append W 0 f, none-is (W ++ f)) (go (empty (W ++ f)) _)
     where
@@ -143,7 +143,7 @@ module _ {A : Type 0} (e b : A) (made : Bool → ℕ → ℕ → ℕ → A) wher
   by-rest g W [] = rw (add-zero (length W)) at (counted-is g W [])
   by-rest g W (c ∷ f) = go (eqb c 0x2E) (allDigits f)
     where
-      go : (p d : Bool) → endOf e b made (cond p (cond d (Fraction g (sat (length W + length f)) (sat (length f)) (cap (number (number 0 W) f))) Malformed) Malformed) ≡ cond (p && d) (cond (not (empty (W ++ f))) (parts g W f) b) b
+      go : (p d : Bool) → endOf e b made (cond p (cond d (Fraction g (sat (length W + length f)) (cap (number (number 0 W) f)) (sat (length f))) Malformed) Malformed) ≡ cond (p && d) (cond (not (empty (W ++ f))) (parts g W f) b) b
       go true true = counted-is g W f
       go true false = refl
       go false d = refl
@@ -162,10 +162,10 @@ module _ {A : Type 0} (e b : A) (made : Bool → ℕ → ℕ → ℕ → A) wher
 -- the walk over all of a text ends in its amount
 pub finish-run : (t : List ℕ) → amountAnswer (finishOf (run Nothing t)) ≡ amountOf t
 unfolding parts amountOf hundredths verdict
-finish-run t = rw (end-run Parsed.Empty Parsed.Malformed (λ g k p m. padded g p m) t) (go (empty t) (decimal t))
+finish-run t = rw (end-run Parsed.Empty Parsed.Malformed (λ g k m p. padded g m p) t) (go (empty t) (decimal t))
   where
     go : (e d : Bool) →
-        amountAnswer (cond e Parsed.Empty (cond d (padded (negative t) (sat (length (fraction t))) (cap (number 0 (whole t ++ fraction t)))) Parsed.Malformed)) ≡
+        amountAnswer (cond e Parsed.Empty (cond d (padded (negative t) (cap (number 0 (whole t ++ fraction t))) (sat (length (fraction t)))) Parsed.Malformed)) ≡
         cond e silent (cond d (cond (leb (length (fraction t)) 2) (verdict (hundredths t)) (says 4)) (says 3))
     go true d = refl
     go false true = rw (number-append (whole t) 0 (fraction t), number-append (whole t) 0 (take 2 (fraction t ++ 48 ∷ 48 ∷ []))) (padded-is (negative t) (fraction t) (number 0 (whole t)))
@@ -189,7 +189,7 @@ front-digits (b ∷ u) = go (digit b) refl (front-digits u)
 -- a percentage, by its digits and how many of them are its fraction
 rated-is :
     (g : Bool) (s : List ℕ) (p : ℕ) → allDigits s ≡ true → p ≤ length s →
-    percentageAnswer (rated g (sat (length s)) (sat p) (cap (number 0 s))) ≡ cond (leb (length s) 18) (read (signed g (number 0 s), p)) (says 7)
+    percentageAnswer (rated g (sat (length s)) (cap (number 0 s)) (sat p)) ≡ cond (leb (length s) 18) (read (signed g (number 0 s), p)) (says 7)
 unfolding rated
 rated-is g s p e l =
     elim (decLt 18 (length s)) [

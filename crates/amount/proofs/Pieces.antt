@@ -58,9 +58,9 @@ whole-bounded : (g : Bool) (k m b : ℕ) → k ≤ 19 → m ≤ 2 ^ 63 + 1 → B
 unfolding wholeStep
 whole-bounded g k m b h i = go (digit b) (eqb b 0x2E)
   where
-    go : (d p : Bool) → Bounded (cond d (Whole g (sat (k + 1)) (cap (10 * m + (b - 48)))) (cond p (Fraction g k 0 m) Malformed))
+    go : (d p : Bool) → Bounded (cond d (Whole g (sat (k + 1)) (cap (10 * m + (b - 48)))) (cond p (Fraction g k m 0) Malformed))
     go true p = (omega arith, omega arith)
-    go false true = (h, omega arith, i)
+    go false true = (h, i, omega arith)
     go false false = tt
 
 step-bounded : (w : Walk) (b : ℕ) → Bounded w → Bounded (stepOf w b)
@@ -72,9 +72,9 @@ step-bounded Nothing b h = go (eqb b 0x2D) (eqb b 0x2B)
     go false true = (omega arith, omega arith)
     go false false = whole-bounded false 0 0 b (omega arith) (omega arith)
 step-bounded (Whole g k m) b h = whole-bounded g k m b (h .0) (h .1)
-step-bounded (Fraction g k p m) b h = go (digit b)
+step-bounded (Fraction g k m p) b h = go (digit b)
   where
-    go : (d : Bool) → Bounded (cond d (Fraction g (sat (k + 1)) (sat (p + 1)) (cap (10 * m + (b - 48)))) Malformed)
+    go : (d : Bool) → Bounded (cond d (Fraction g (sat (k + 1)) (cap (10 * m + (b - 48))) (sat (p + 1))) Malformed)
     go true = (omega arith, omega arith, omega arith)
     go false = tt
 step-bounded Malformed b h = tt

@@ -22,20 +22,20 @@ unfolding run
 run-malformed [] = refl
 run-malformed (b ∷ s) = run-malformed s
 
-left-at-once : (s : List ℕ) (w : Walk) → malformed w ≡ true → run w s ≡ Malformed
+left-at-once : (s : List ℕ) (w : Walk) → malformed w ≡ true → run w s ≡ w
 left-at-once s Nothing h = cc
 left-at-once s (Whole g k m) h = cc
-left-at-once s (Fraction g k p m) h = cc
+left-at-once s (Fraction g k m p) h = cc
 left-at-once s Malformed h = run-malformed s
 
--- the loop of a walk, from i on: left where the text is malformed, a turn, and the end
+-- the loop of a walk, from i on: a turn, one after which it is left, and the end
 module _ (s : List ℕ) (i : ℕ) (w₀ w : Walk) (e : run w₀ s ≡ run w (drop i s)) where
-  pub run-left : (b : Bool) → b ≡ malformed w → b ≡ true → Malformed ≡ run w₀ s
-  run-left b p q = sym (e ∙ left-at-once (drop i s) w (sym p ∙ q))
-
   pub run-on : i < length s → (v : Walk) → v ≡ stepOf w (getD s i 0) → run w₀ s ≡ run v (drop (i + 1) s)
   unfolding run
   run-on h v q = e ∙ rw (add-one, drop-cons s i 0, q)
+
+  pub run-left : i < length s → (v : Walk) → v ≡ stepOf w (getD s i 0) → (b : Bool) → b ≡ malformed v → b ≡ true → v ≡ run w₀ s
+  run-left h v q b p r = sym (run-on h v q ∙ left-at-once (drop (i + 1) s) v (sym p ∙ r))
 
   pub run-end : length s ≤ i → w ≡ run w₀ s
   unfolding run

@@ -15,7 +15,7 @@ states =
     ∷ ("-", Whole true 0 0)
     ∷ ("+120", Whole false 3 120)
     ∷ (".", Fraction false 0 0 0)
-    ∷ ("-12.50", Fraction true 4 2 1250)
+    ∷ ("-12.50", Fraction true 4 1250 2)
     ∷ ("1-", Malformed)
     ∷ ("1.2.", Malformed)
     ∷ ("0000000000000000000000", Whole false 19 0)

@@ -15,5 +15,5 @@ pub data InPieces : Walk → List (List ℕ) → Walk → Type 0 where
 abbrev pub Bounded : Walk → Type 0
 Bounded Nothing = Unit {0}
 Bounded (Whole g k m) = (k ≤ 19) × (m ≤ 2 ^ 63 + 1)
-Bounded (Fraction g k p m) = (k ≤ 19) × (p ≤ 19) × (m ≤ 2 ^ 63 + 1)
+Bounded (Fraction g k m p) = (k ≤ 19) × (m ≤ 2 ^ 63 + 1) × (p ≤ 19)
 Bounded Malformed = Unit {0}

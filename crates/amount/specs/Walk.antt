@@ -23,11 +23,11 @@ sat n = min n 19
 
 -- a byte more of a whole part: sign, digits, size
 unfoldable pub wholeStep : Bool → ℕ → ℕ → ℕ → Walk
-wholeStep g k m b = cond (digit b) (Whole g (sat (k + 1)) (cap (10 * m + (b - 48)))) (cond (eqb b 0x2E) (Fraction g k 0 m) Malformed)
+wholeStep g k m b = cond (digit b) (Whole g (sat (k + 1)) (cap (10 * m + (b - 48)))) (cond (eqb b 0x2E) (Fraction g k m 0) Malformed)
 
--- a byte more of a fraction: sign, digits, decimals, size
+-- a byte more of a fraction: sign, digits, size, decimals
 unfoldable pub fractionStep : Bool → ℕ → ℕ → ℕ → ℕ → Walk
-fractionStep g k p m b = cond (digit b) (Fraction g (sat (k + 1)) (sat (p + 1)) (cap (10 * m + (b - 48)))) Malformed
+fractionStep g k m p b = cond (digit b) (Fraction g (sat (k + 1)) (cap (10 * m + (b - 48))) (sat (p + 1))) Malformed
 
 -- the first byte
 unfoldable pub startStep : ℕ → Walk
@@ -37,14 +37,14 @@ startStep b = cond (eqb b 0x2D) (Whole true 0 0) (cond (eqb b 0x2B) (Whole false
 abbrev pub stepOf : Walk → ℕ → Walk
 stepOf Nothing b = startStep b
 stepOf (Whole g k m) b = wholeStep g k m b
-stepOf (Fraction g k p m) b = fractionStep g k p m b
+stepOf (Fraction g k m p) b = fractionStep g k m p b
 stepOf Malformed b = Malformed
 
 -- a byte was out of place
 abbrev pub malformed : Walk → Bool
 malformed Nothing = false
 malformed (Whole g k m) = false
-malformed (Fraction g k p m) = false
+malformed (Fraction g k m p) = false
 malformed Malformed = true
 
 -- a walk over bytes, from a state
@@ -61,11 +61,11 @@ push m = cap (10 * m + (48 - 48))
 
 -- a size with so many decimals, filled up to hundredths
 unfoldable pub padded : Bool → ℕ → ℕ → ParsedAmount
-padded g p m = cond (ltb 2 p) Parsed.TooManyDecimals (cond (eqb p 2) (ranged g m) (cond (eqb p 1) (ranged g (push m)) (ranged g (push (push m)))))
+padded g m p = cond (ltb 2 p) Parsed.TooManyDecimals (cond (eqb p 2) (ranged g m) (cond (eqb p 1) (ranged g (push m)) (ranged g (push (push m)))))
 
--- a percentage of at most 18 digits: sign, digits, decimals, size
+-- a percentage of at most 18 digits: sign, digits, size, decimals
 unfoldable pub rated : Bool → ℕ → ℕ → ℕ → ParsedPercentage
-rated g k p m =
+rated g k m p =
     cond (ltb 18 k) Rated.TooPrecise
     (cond (ltb m 1000000000000000000) (Rated.Percentage (record { unscaled = signed g m; scale = p })) Rated.TooPrecise)
 
@@ -73,16 +73,16 @@ rated g k p m =
 unfoldable pub counted : {A : Type 0} → A → ℕ → A → A
 counted b k a = cond (eqb k 0) b a
 
--- the end of a walk: e of no bytes, b of no decimal, else made of sign, digits, decimals and size
+-- the end of a walk: e of no bytes, b of no decimal, else made of sign, digits, size and decimals
 abbrev pub endOf : {A : Type 0} → A → A → (Bool → ℕ → ℕ → ℕ → A) → Walk → A
 endOf e b made Nothing = e
-endOf e b made (Whole g k m) = counted b k (made g k 0 m)
-endOf e b made (Fraction g k p m) = counted b k (made g k p m)
+endOf e b made (Whole g k m) = counted b k (made g k m 0)
+endOf e b made (Fraction g k m p) = counted b k (made g k m p)
 endOf e b made Malformed = b
 
 -- as an amount
 abbrev pub finishOf : Walk → ParsedAmount
-finishOf w = endOf Parsed.Empty Parsed.Malformed (λ g k p m. padded g p m) w
+finishOf w = endOf Parsed.Empty Parsed.Malformed (λ g k m p. padded g m p) w
 
 -- and as a percentage
 abbrev pub rateOf : Walk → ParsedPercentage

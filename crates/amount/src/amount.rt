@@ -46,8 +46,8 @@ fn in_range(negative: bool, size: u64) -> ParsedAmount
 }
 
 // The amount of a size with so many decimals: what is missing to hundredths is filled up by zeros.
-fn pad(negative: bool, decimals: u32, size: u64) -> ParsedAmount
-    ensures { λ r. ⌜ r ≡ padded negative decimals size ⌝ }
+fn pad(negative: bool, size: u64, decimals: u32) -> ParsedAmount
+    ensures { λ r. ⌜ r ≡ padded negative size decimals ⌝ }
 {
     let many = 2 < decimals;
     if many {
@@ -65,14 +65,14 @@ fn pad(negative: bool, decimals: u32, size: u64) -> ParsedAmount
 }
 
 // The end of a walk that met no byte out of place: there must have been a digit.
-fn ended(negative: bool, digits: u32, decimals: u32, size: u64) -> ParsedAmount
-    ensures { λ r. ⌜ r ≡ counted ParsedAmount.Malformed digits (padded negative decimals size) ⌝ }
+fn ended(negative: bool, digits: u32, size: u64, decimals: u32) -> ParsedAmount
+    ensures { λ r. ⌜ r ≡ counted ParsedAmount.Malformed digits (padded negative size decimals) ⌝ }
 {
     let none = digits == 0;
     if none {
         return ParsedAmount::Malformed;
     }
-    pad(negative, decimals, size)
+    pad(negative, size, decimals)
 }
 
 // The end of a walk, as an amount.
@@ -81,8 +81,8 @@ fn finish(w: Walk) -> ParsedAmount
 {
     match w {
         Walk::Nothing => ParsedAmount::Empty,
-        Walk::Whole(negative, digits, size) => ended(negative, digits, 0, size),
-        Walk::Fraction(negative, digits, decimals, size) => ended(negative, digits, decimals, size),
+        Walk::Whole(negative, digits, size) => ended(negative, digits, size, 0),
+        Walk::Fraction(negative, digits, size, decimals) => ended(negative, digits, size, decimals),
         Walk::Malformed => ParsedAmount::Malformed,
     }
 }

@@ -13,24 +13,23 @@ pub(crate) enum Walk {
     Nothing,
     // A sign, digits, or both: whether below zero, how many digits, the number that they write.
     Whole(bool, u32, u64),
-    // These and a point: whether below zero, how many digits, how many of them behind the point, the
-    // number that they all write.
-    Fraction(bool, u32, u32, u64),
+    // These and a point: the same, and how many of the digits stand behind the point.
+    Fraction(bool, u32, u64, u32),
     // A byte that is out of place.
     Malformed,
 }
 
-// The walk over s, taken up from a state. What is malformed stays so: the rest is not looked at.
+// The walk over s, taken up from a state. What is malformed stays so, and the rest is not looked at.
 pub(crate) fn walk_on(s: &[u8], from: Walk) -> Walk
     ensures { λ r. ⌜ r ≡ run from (now (s .entry)) ⌝ }
 {
     let mut w = from;
     let mut i = 0;
     while i < s.len() {
-        if is_malformed(w) {
-            return Walk::Malformed;
-        }
         w = step(w, s[i]);
+        if is_malformed(w) {
+            return w;
+        }
         i += 1;
     }
     w
@@ -55,8 +54,8 @@ fn step(w: Walk, b: u8) -> Walk
     match w {
         Walk::Nothing => start_step(b),
         Walk::Whole(negative, digits, size) => whole_step(negative, digits, size, b),
-        Walk::Fraction(negative, digits, decimals, size) => {
-            fraction_step(negative, digits, decimals, size, b)
+        Walk::Fraction(negative, digits, size, decimals) => {
+            fraction_step(negative, digits, size, decimals, b)
         }
         Walk::Malformed => Walk::Malformed,
     }
@@ -86,21 +85,21 @@ fn whole_step(negative: bool, digits: u32, size: u64, b: u8) -> Walk
     }
     let point = b == b'.';
     if point {
-        return Walk::Fraction(negative, digits, 0, size);
+        return Walk::Fraction(negative, digits, size, 0);
     }
     Walk::Malformed
 }
 
 // A byte more of the fraction: a digit.
-fn fraction_step(negative: bool, digits: u32, decimals: u32, size: u64, b: u8) -> Walk
-    ensures { λ r. ⌜ r ≡ fractionStep negative digits decimals size b ⌝ }
+fn fraction_step(negative: bool, digits: u32, size: u64, decimals: u32, b: u8) -> Walk
+    ensures { λ r. ⌜ r ≡ fractionStep negative digits size decimals b ⌝ }
 {
     if text::is_digit(b) {
         return Walk::Fraction(
             negative,
             count_up(digits),
-            count_up(decimals),
             push_digit(size, b),
+            count_up(decimals),
         );
     }
     Walk::Malformed

@@ -35,8 +35,8 @@ fn with_sign(negative: bool, size: u64) -> i64
 }
 
 // The end of a walk that met no byte out of place: one digit at least and 18 at most.
-fn ended(negative: bool, digits: u32, decimals: u32, size: u64) -> ParsedPercentage
-    ensures { λ r. ⌜ r ≡ counted ParsedPercentage.Malformed digits (rated negative digits decimals size) ⌝ }
+fn ended(negative: bool, digits: u32, size: u64, decimals: u32) -> ParsedPercentage
+    ensures { λ r. ⌜ r ≡ counted ParsedPercentage.Malformed digits (rated negative digits size decimals) ⌝ }
 {
     let none = digits == 0;
     if none {
@@ -62,8 +62,8 @@ fn finish(w: Walk) -> ParsedPercentage
 {
     match w {
         Walk::Nothing => ParsedPercentage::Malformed,
-        Walk::Whole(negative, digits, size) => ended(negative, digits, 0, size),
-        Walk::Fraction(negative, digits, decimals, size) => ended(negative, digits, decimals, size),
+        Walk::Whole(negative, digits, size) => ended(negative, digits, size, 0),
+        Walk::Fraction(negative, digits, size, decimals) => ended(negative, digits, size, decimals),
         Walk::Malformed => ParsedPercentage::Malformed,
     }
 }

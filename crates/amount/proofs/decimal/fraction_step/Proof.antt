@@ -9,7 +9,7 @@ push-digit-requires c κs = search passed
 
 returns : tie.Need-returns
 unfolding fractionStep
-returns c = simp (c .push-digit .ensures, ← c .before .count-up2 .ensures, ← c .before .before .count-up .ensures, c .before .before .before .if1 .taken, ← c .before .before .before .before .is-digit .ensures)
+returns c = simp (c .count-up2 .ensures, ← c .before .push-digit .ensures, ← c .before .before .count-up .ensures, c .before .before .before .if1 .taken, ← c .before .before .before .before .is-digit .ensures)
 
 returns-2 : tie.Need-returns-2
 unfolding fractionStep
@@ -21,7 +21,7 @@ fraction-step-spec =
     (tie.spec
     (λ c κs. search needs)
     (λ c κs. search needs)
-    (λ c κs. search needs)
     push-digit-requires
+    (λ c κs. search needs)
     returns
     returns-2)

@@ -33,10 +33,10 @@ walk-on-spec =
     Inv-loop
     μ-loop
     loop-holds
-    (λ c κs. search needs)
-    returns
     (λ c. omega arith)
     (λ c κs. search needs)
+    (λ c κs. search needs)
+    returns
     (λ c. omega arith)
     (λ c. omega arith)
     loop-again
