@@ -1,7 +1,7 @@
 -- A walk stopped after any byte and taken up again from its state, without the bytes before, ends as the unbroken one (R-2): in any number of pieces and at any cut, as an amount and as a percentage, by states of a fixed size.
 use mathlib.Core.Path.{_≡_, refl, sym, ap, _∙_}
 use mathlib.Core.Bool.{Bool, true, false, cond}
-use mathlib.Core.List.{List, [], _∷_, _++_, append-nil, flatten, foldl}
+use mathlib.Core.List.{List, [], _∷_, append-nil, flatten, foldl}
 use Prim.Native.Nat.{ℕ, _+_, _*_, _-_, _^_, _≤_}
 use native.Mathlib.Omega.{arith}
 use lib.Dec.{eqb}

@@ -1,5 +1,5 @@
 -- Laws of the walk: the turns of its loop, and a walk that is taken up again.
-use mathlib.Core.Path.{_≡_, refl, sym, ap, _∙_}
+use mathlib.Core.Path.{_≡_, refl, sym, _∙_}
 use mathlib.Core.Bool.{Bool, true}
 use mathlib.Core.List.{List, [], _∷_, _++_, foldl-append}
 use Prim.Native.Nat.{ℕ, _+_, _≤_, _<_}
@@ -22,11 +22,11 @@ unfolding run
 run-malformed [] = refl
 run-malformed (b ∷ s) = run-malformed s
 
-left-at-once : (s : List ℕ) (w : Walk) → malformed w ≡ true → run w s ≡ w
-left-at-once s Nothing h = cc
-left-at-once s (Whole g k m) h = cc
-left-at-once s (Fraction g k m p) h = cc
-left-at-once s Malformed h = run-malformed s
+malformed-stays : (s : List ℕ) (w : Walk) → malformed w ≡ true → run w s ≡ w
+malformed-stays s Nothing h = cc
+malformed-stays s (Whole g k m) h = cc
+malformed-stays s (Fraction g k m p) h = cc
+malformed-stays s Malformed h = run-malformed s
 
 -- the loop of a walk, from i on: a turn, one after which it is left, and the end
 module _ (s : List ℕ) (i : ℕ) (w₀ w : Walk) (e : run w₀ s ≡ run w (drop i s)) where
@@ -35,7 +35,7 @@ module _ (s : List ℕ) (i : ℕ) (w₀ w : Walk) (e : run w₀ s ≡ run w (dro
   run-on h v q = e ∙ rw (add-one, drop-cons s i 0, q)
 
   pub run-left : i < length s → (v : Walk) → v ≡ stepOf w (getD s i 0) → (b : Bool) → b ≡ malformed v → b ≡ true → v ≡ run w₀ s
-  run-left h v q b p r = sym (run-on h v q ∙ left-at-once (drop (i + 1) s) v (sym p ∙ r))
+  run-left h v q b p r = sym (run-on h v q ∙ malformed-stays (drop (i + 1) s) v (sym p ∙ r))
 
   pub run-end : length s ≤ i → w ≡ run w₀ s
   unfolding run

@@ -1,6 +1,6 @@
 // One walk over the bytes of a decimal: grammar, digits, decimals and size together, one byte after the
-// other. Its state has a fixed size: the walk can stop after any byte and be taken up again without the
-// bytes before. docs/ARCHITECTURE.md has the states as a table.
+// other. Its state has a fixed size, and the walk can stop after any byte and be taken up again without
+// the bytes before (specs/Pieces.antt). docs/ARCHITECTURE.md has the states as a table.
 ghost use mathlib.Core.Path.{_≡_};
 ghost use Prim.Native.Nat.{_+_, _*_, _-_};
 ghost use mathlib.Core.Bool.{true};
@@ -13,7 +13,7 @@ pub(crate) enum Walk {
     Nothing,
     // A sign, digits, or both: whether below zero, how many digits, the number that they write.
     Whole(bool, u32, u64),
-    // These and a point: the same, and how many of the digits stand behind the point.
+    // A point, with these or without: the same, and how many of the digits stand behind the point.
     Fraction(bool, u32, u64, u32),
     // A byte that is out of place.
     Malformed,
