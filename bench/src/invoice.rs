@@ -1,6 +1,6 @@
 //! A printer's invoice as a settlement of exactly so many records: payment, terms, VAT and totals first,
-//! then ever more taxes, allowances, charges and preceding invoices, as a collective invoice has them; and one
-//! of VAT breakdowns alone.
+//! then ever more taxes, allowances, charges and preceding invoices, as a collective invoice has them; one of
+//! VAT breakdowns alone, and one of tax totals alone.
 
 use compare::tree::Tree;
 
@@ -140,4 +140,10 @@ pub fn taxes(records: usize) -> Tree {
         i += 1;
     }
     all.settlement()
+}
+
+/// A settlement of `records` records that has tax totals alone: but for two records a number each.
+pub fn tax_totals(records: usize) -> Tree {
+    let totals: Vec<Tree> = (2..records).map(|i| leaf("TaxTotalAmount", &format!("{}.75", 232 + i))).collect();
+    group("ApplicableHeaderTradeSettlement", [group("SpecifiedTradeSettlementHeaderMonetarySummation", totals)])
 }

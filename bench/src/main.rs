@@ -58,6 +58,8 @@ fn invoices() {
     times("An invoice", &SIZES, invoice::settlement);
     println!();
     times("VAT breakdowns alone", &SIZES[1..], invoice::taxes);
+    println!();
+    times("Tax totals alone", &SIZES[1..], invoice::tax_totals);
 }
 
 /// The two times for settlements of these many records.
