@@ -8,11 +8,11 @@ use crate::decimal::{Walk, push_digit, walk_on};
 use crate::signed::{negated, to_i64};
 
 // An amount's hundredths. The currency is not part of it.
-#[derive(Drop)]
+#[derive(Clone, Copy)]
 pub struct InvoiceAmount(i64);
 
 // What reading an amount answers.
-#[derive(Drop)]
+#[derive(Clone, Copy)]
 pub enum ParsedAmount {
     Amount(InvoiceAmount),
     Empty,

@@ -6,7 +6,7 @@ ghost use Rattle.text.specs.Digits.{digit};
 ghost use Rattle.amount.specs.Walk.{cap, sat, malformed, start_step, whole_step, fraction_step, step_of, run};
 
 // What has been read so far. Counts stop at 19 and sizes at 2^63 + 1.
-#[derive(Drop)]
+#[derive(Clone, Copy)]
 pub(crate) enum Walk {
     // No byte.
     Nothing,

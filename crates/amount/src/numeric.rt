@@ -9,14 +9,14 @@ use crate::decimal::{Walk, walk_on};
 use crate::signed::{negated, to_i64};
 
 // unscaled / 10^scale per cent.
-#[derive(Drop)]
+#[derive(Clone, Copy)]
 pub struct Percentage {
     unscaled: i64,
     scale: u32,
 }
 
 // What reading a percentage answers.
-#[derive(Drop)]
+#[derive(Clone, Copy)]
 pub enum ParsedPercentage {
     Percentage(Percentage),
     Malformed,

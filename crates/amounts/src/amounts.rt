@@ -17,14 +17,14 @@ use report::{Amount, Text};
 use values::{Lent, Site, missing};
 
 // A required amount, 0 where it is missing or fails, and where the next entry goes.
-#[derive(Drop)]
+#[derive(Clone, Copy)]
 pub struct RequiredAmount {
     pub amount: InvoiceAmount,
     pub at: usize,
 }
 
 // A term that must be there: its rule, the path that is said where it is missing, and where it stands.
-#[derive(Drop)]
+#[derive(Clone, Copy)]
 pub struct Required {
     pub rule: Rule,
     pub group: Path,

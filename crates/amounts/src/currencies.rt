@@ -6,7 +6,7 @@ ghost use Rattle.amounts.specs.Amounts.{fault_of};
 use names::Message;
 
 // What is wrong with a currencyID.
-#[derive(Drop)]
+#[derive(Clone, Copy)]
 pub(crate) enum Fault {
     Right,
     Wrong(Message),

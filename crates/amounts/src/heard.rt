@@ -16,7 +16,7 @@ use report::{Amount, Place, Text};
 use values::{Site, say};
 
 // What is said of an amount: nothing, the amount, or a message with the text that is its value.
-#[derive(Drop)]
+#[derive(Clone, Copy)]
 pub enum Heard {
     Nothing,
     Amount(InvoiceAmount),
@@ -24,7 +24,7 @@ pub enum Heard {
 }
 
 // An amount, and where the next entry goes.
-#[derive(Drop)]
+#[derive(Clone, Copy)]
 pub struct AmountSaid {
     pub amount: Amount,
     pub at: usize,

@@ -5,6 +5,8 @@
 // has something to say is lent the entries and the place of the next one, and answers where the next
 // goes after it. A document is lent as a table, its text and its links (crate `element`). No public
 // function has a `requires`, and the crate assumes nothing of its own.
+#![tactic(auto)]
+
 mod amounts;
 mod currencies;
 mod heard;

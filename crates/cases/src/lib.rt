@@ -3,6 +3,8 @@
 //
 // Every function takes all bytes. No public function has a `requires`, and the crate assumes nothing
 // of its own.
+#![tactic(auto)]
+
 mod listing;
 
 ghost use Rattle.std.specs.Prelude.{◌≡◌, ◌+◌, ◌<◌, min, length, get_or, drop, set};
@@ -12,7 +14,7 @@ pub use listing::numbers;
 use text::is_within;
 
 // What stands at the front of a text: a byte and how many bytes write it, the hole, or neither.
-#[derive(Drop)]
+#[derive(Clone, Copy)]
 enum Symbol {
     Byte(u8, usize),
     Hole,

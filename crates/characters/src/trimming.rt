@@ -8,7 +8,7 @@ use crate::white_space::is_trimmed;
 use text::Span;
 
 // What is kept of the characters passed: whether there is any, and from where to where.
-#[derive(Drop)]
+#[derive(Clone, Copy)]
 struct Kept {
     any: bool,
     start: usize,

@@ -8,7 +8,7 @@ use text::is_within;
 
 // What stands at the front of bytes: a character's code point and the number of its bytes, or
 // what is no UTF-8.
-#[derive(Drop)]
+#[derive(Clone, Copy)]
 pub enum Char {
     Bad,
     Point(u32, usize),

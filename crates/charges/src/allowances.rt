@@ -20,7 +20,7 @@ use report::AllowanceCharge;
 use values::Lent;
 
 // Whether it is a charge, its row, and where the next entry goes.
-#[derive(Drop)]
+#[derive(Clone, Copy)]
 pub struct AllowanceChargeSaid {
     pub charge: bool,
     pub row: AllowanceCharge,

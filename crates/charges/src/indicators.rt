@@ -13,7 +13,7 @@ use names::{Message, Path, Term};
 use report::Text;
 
 // Whether it is a charge, and where the next entry goes.
-#[derive(Drop)]
+#[derive(Clone, Copy)]
 pub(crate) struct IndicatorSaid {
     pub charge: bool,
     pub at: usize,

@@ -19,7 +19,7 @@ use report::{AllowanceCharge, Amount, Percent, Text};
 use values::Lent;
 
 // The charge, if it is one, and where the next entry goes.
-#[derive(Drop)]
+#[derive(Clone, Copy)]
 pub struct LogisticsSaid {
     pub charge: MaybeCharge,
     pub at: usize,

@@ -4,7 +4,7 @@ use names::{Path, Term};
 use report::AllowanceCharge;
 
 // A group BG-20 or BG-21: its index, its terms, and the rules that require two of them.
-#[derive(Drop)]
+#[derive(Clone, Copy)]
 pub struct Group {
     pub index: u32,
     pub amount: Term,
@@ -17,7 +17,7 @@ pub struct Group {
 }
 
 // The paths of a VAT category's element: its type code, itself, its rate, and its parent.
-#[derive(Drop)]
+#[derive(Clone, Copy)]
 pub struct TaxPaths {
     pub type_code: Path,
     pub whole: Path,
@@ -26,14 +26,14 @@ pub struct TaxPaths {
 }
 
 // A charge that may be absent.
-#[derive(Drop)]
+#[derive(Clone, Copy)]
 pub enum MaybeCharge {
     Absent,
     Of(AllowanceCharge),
 }
 
 // The row of an allowance or a charge, and where the next entry goes.
-#[derive(Drop)]
+#[derive(Clone, Copy)]
 pub struct RowSaid {
     pub row: AllowanceCharge,
     pub at: usize,

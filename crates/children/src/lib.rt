@@ -5,6 +5,8 @@
 // Rows, entries and unmapped names go to the lent lists, each behind what it had. A document is lent as a
 // table, its text and its links (crate `element`). No public function has a `requires` (those that count
 // rows have one, and are private), and the crate assumes nothing of its own.
+#![tactic(auto)]
+
 mod rows;
 mod walk;
 

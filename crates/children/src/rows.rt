@@ -19,7 +19,7 @@ use steps::Tally;
 use values::Lent;
 
 // A tally, and where the next rows go.
-#[derive(Drop)]
+#[derive(Clone, Copy)]
 pub(crate) struct Tallied {
     pub(crate) tally: Tally,
     pub(crate) cursor: Cursor,

@@ -3,7 +3,7 @@ ghost use Rattle.std.specs.Prelude.{◌≡◌};
 ghost use Rattle.codes.specs.Boolean.{boolean_answer, boolean_of};
 
 // What a text writes as a boolean, if it writes one.
-#[derive(Drop)]
+#[derive(Clone, Copy)]
 pub enum ParsedBoolean {
     Boolean(bool),
     Malformed,

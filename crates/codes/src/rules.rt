@@ -3,7 +3,7 @@ ghost use Rattle.std.specs.Prelude.{◌≡◌};
 ghost use Rattle.codes.specs.Rules.{bit_of, in_force};
 
 // A rule BR-n, in the order of the bits of the rules number.
-#[derive(Drop)]
+#[derive(Clone, Copy)]
 pub enum Rule {
     Br12,
     Br13,

@@ -3,7 +3,7 @@ ghost use Rattle.std.specs.Prelude.{◌≡◌};
 ghost use Rattle.codes.specs.VatPoint.{vat_point_answer, vat_point_date_code_of};
 
 // The code of UNTDID 2005, or none.
-#[derive(Drop)]
+#[derive(Clone, Copy)]
 pub enum VatPointDateCode {
     Code(u32),
     Unknown,

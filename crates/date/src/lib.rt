@@ -2,6 +2,8 @@
 //
 // Every function takes all bytes and all numbers. No public function has a `requires`, and the
 // crate assumes nothing of its own.
+#![tactic(auto)]
+
 ghost use Rattle.std.specs.Prelude.{◌≡◌, cond};
 ghost use Rattle.date.specs.Date.{leap, days, is_day, numbered, date_of, parsed_date};
 ghost use Rattle.date.specs.Answers.{date_answer};
@@ -10,7 +12,7 @@ use text::Numeral;
 
 // What a text says of a date: the number CCYYMMDD, that it is not CCYYMMDD, or that there is no
 // such day.
-#[derive(Drop)]
+#[derive(Clone, Copy)]
 pub enum ParsedDate {
     Date(u32),
     Malformed,

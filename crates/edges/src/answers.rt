@@ -17,7 +17,7 @@ use date::ParsedDate;
 use text::Ordering;
 
 // Up to three numbers; those that are not there are 0.
-#[derive(Drop)]
+#[derive(Clone, Copy)]
 pub(crate) struct Numbers {
     pub count: u32,
     pub first: i64,
@@ -26,7 +26,7 @@ pub(crate) struct Numbers {
 }
 
 // The rule that a text names.
-#[derive(Drop)]
+#[derive(Clone, Copy)]
 enum NamedRule {
     Named(Rule),
     Missing,

@@ -4,7 +4,7 @@ ghost use Rattle.text.specs.Place.{meant};
 ghost use Rattle.edges.specs.Names.{leaves};
 
 // The leaf functions that cases are run on.
-#[derive(Drop)]
+#[derive(Clone, Copy)]
 pub(crate) enum Leaf {
     Utf8,
     Trim,
@@ -25,7 +25,7 @@ pub(crate) enum Leaf {
 }
 
 // What a name stands for.
-#[derive(Drop)]
+#[derive(Clone, Copy)]
 pub(crate) enum NamedLeaf {
     Named(Leaf),
     Unknown,

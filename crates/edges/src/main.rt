@@ -9,6 +9,8 @@
 //
 // An answer is its numbers, document 01's message first; `answer_of` (specs/Answers.antt) has those
 // of each leaf. tools/edges.py makes the cases, and their answers by a model of its own.
+#![tactic(auto)]
+
 mod answers;
 mod leaves;
 

@@ -5,6 +5,8 @@
 // looks at fewer, so that all contracts speak of one document. Every function takes all numbers and
 // all bytes: a record that the table does not have reads as zeros. No public function has a
 // `requires`, and the crate assumes nothing of its own.
+#![tactic(auto)]
+
 mod attributes;
 mod kids;
 mod texts;

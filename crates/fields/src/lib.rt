@@ -4,6 +4,8 @@
 // Every function that puts bytes puts them from a place on, each where there is room, and answers where the
 // next go. All take all numbers and lists of any length, so no public function has a `requires`. The crate
 // assumes nothing of its own.
+#![tactic(auto)]
+
 mod column;
 mod field;
 mod row;

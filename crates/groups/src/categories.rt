@@ -9,7 +9,7 @@ use report::{Percent, Place};
 use values::Lent;
 
 // A category and its rate, and where the next entry goes.
-#[derive(Drop)]
+#[derive(Clone, Copy)]
 pub struct CategorySaid {
     pub category: Place,
     pub rate: Percent,

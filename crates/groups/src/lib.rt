@@ -4,6 +4,8 @@
 // What a group holds is answered by value, with the entries said on the way; the reader above puts
 // its row. A document is lent as a table, its text and its links (crate `element`). No public
 // function has a `requires`, and the crate assumes nothing of its own.
+#![tactic(auto)]
+
 mod categories;
 mod parties;
 mod periods;

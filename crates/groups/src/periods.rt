@@ -13,14 +13,14 @@ use report::Text;
 use values::DatePaths;
 
 // A period, and where the next entry goes.
-#[derive(Drop)]
+#[derive(Clone, Copy)]
 pub struct PeriodSaid {
     pub period: Period,
     pub at: usize,
 }
 
 // Payment terms, and where the next entry goes.
-#[derive(Drop)]
+#[derive(Clone, Copy)]
 pub struct PaymentTermsSaid {
     pub terms: PaymentTerms,
     pub at: usize,

@@ -10,7 +10,7 @@ use report::Preceding;
 use values::{DatePaths, Lent};
 
 // A preceding invoice, and where the next entry goes.
-#[derive(Drop)]
+#[derive(Clone, Copy)]
 pub struct PrecedingSaid {
     pub invoice: Preceding,
     pub at: usize,

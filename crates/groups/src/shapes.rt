@@ -4,14 +4,14 @@ use names::{Path, Term};
 use report::{Day, Place, Text};
 
 // BT-73 and BT-74.
-#[derive(Drop)]
+#[derive(Clone, Copy)]
 pub struct Period {
     pub start: Day,
     pub end: Day,
 }
 
 // BT-20, BT-9 and BT-89.
-#[derive(Drop)]
+#[derive(Clone, Copy)]
 pub struct PaymentTerms {
     pub note: Text,
     pub due: Day,
@@ -19,21 +19,21 @@ pub struct PaymentTerms {
 }
 
 // An identifier with its scheme.
-#[derive(Drop)]
+#[derive(Clone, Copy)]
 pub struct Identifier {
     pub content: Place,
     pub scheme: Text,
 }
 
 // An identifier that may be absent.
-#[derive(Drop)]
+#[derive(Clone, Copy)]
 pub enum MaybeIdentifier {
     Absent,
     Of(Identifier),
 }
 
 // BT-59, BT-60 and BT-61.
-#[derive(Drop)]
+#[derive(Clone, Copy)]
 pub struct Payee {
     pub name: Text,
     pub identifier: MaybeIdentifier,
@@ -41,14 +41,14 @@ pub struct Payee {
 }
 
 // BT-8, a code of UNTDID 2005, that may be absent.
-#[derive(Drop)]
+#[derive(Clone, Copy)]
 pub enum PointCode {
     Absent,
     Of(u32),
 }
 
 // How many VAT breakdowns there are, BT-7, BT-8, and the first code as it was written.
-#[derive(Drop)]
+#[derive(Clone, Copy)]
 pub struct VatState {
     pub breakdowns: u32,
     pub point: Day,
@@ -58,7 +58,7 @@ pub struct VatState {
 
 // Where a VAT category and its rate are said: the paths of its type code, its group and its rate, its
 // terms, and the rule that requires it.
-#[derive(Drop)]
+#[derive(Clone, Copy)]
 pub struct Category {
     pub code: Path,
     pub whole: Path,
@@ -69,7 +69,7 @@ pub struct Category {
 }
 
 // The children of a VAT category's element: type code, category code and rate, 0 where there is none.
-#[derive(Drop)]
+#[derive(Clone, Copy)]
 pub struct CategoryKids {
     pub kind: usize,
     pub code: usize,

@@ -21,14 +21,14 @@ use report::{Day, Place, Text, Vat};
 use values::{DatePaths, DateSaid, Lent};
 
 // What a VAT breakdown makes of the point date and code, and where the next entry goes.
-#[derive(Drop)]
+#[derive(Clone, Copy)]
 pub struct VatSaid {
     pub state: VatState,
     pub at: usize,
 }
 
 // A VAT breakdown, too.
-#[derive(Drop)]
+#[derive(Clone, Copy)]
 pub struct VatBreakdownSaid {
     pub state: VatState,
     pub vat: Vat,

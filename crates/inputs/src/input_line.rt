@@ -15,7 +15,7 @@ const DIGITS: usize = 9;
 
 // What a line says: two numbers, and where currency and identifier stand in it. The place of one that
 // is not given is empty.
-#[derive(Drop)]
+#[derive(Clone, Copy)]
 pub struct Fields {
     pub mode: u32,
     pub rules: u32,
@@ -24,7 +24,7 @@ pub struct Fields {
 }
 
 // The fields of an input line, or that the line, or a file beside it, is unfit.
-#[derive(Drop)]
+#[derive(Clone, Copy)]
 pub enum Line {
     Unfit,
     Fit(Fields),

@@ -6,7 +6,7 @@ ghost use Rattle.element.specs.LinkDoc.{link_doc};
 ghost use Rattle.kinds.specs.Kinds.{kind_is};
 
 // A child that gives a term or a group alone.
-#[derive(Drop)]
+#[derive(Clone, Copy)]
 pub enum PlainKind {
     CreditorReference,
     PaymentReference,
@@ -17,7 +17,7 @@ pub enum PlainKind {
 }
 
 // A child that says when or how is paid.
-#[derive(Drop)]
+#[derive(Clone, Copy)]
 pub enum BillingKind {
     Period,
     PaymentTerms,
@@ -25,7 +25,7 @@ pub enum BillingKind {
 }
 
 // A child that makes a row.
-#[derive(Drop)]
+#[derive(Clone, Copy)]
 pub enum RowKind {
     TradeTax,
     AllowanceCharge,
@@ -34,7 +34,7 @@ pub enum RowKind {
 }
 
 // What a child is, by the part of the state that it changes.
-#[derive(Drop)]
+#[derive(Clone, Copy)]
 pub enum Kind {
     Plain(PlainKind),
     Row(RowKind),

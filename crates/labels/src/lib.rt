@@ -3,6 +3,8 @@
 //
 // Every function takes all numbers and lists of any length: what has no room is left out. No public
 // function has a `requires`, and the crate assumes nothing of its own.
+#![tactic(auto)]
+
 mod line;
 mod list;
 mod parent;

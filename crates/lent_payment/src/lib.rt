@@ -3,6 +3,8 @@
 //
 // Every function takes all numbers and all lists. No public function has a `requires`, and the crate
 // assumes nothing of its own.
+#![tactic(auto)]
+
 ghost use Rattle.settlement.specs.Payments.{payment_means_of};
 ghost use Rattle.element.specs.LinkDoc.{link_doc};
 ghost use Rattle.unmapped.specs.Acted.{Acted};

@@ -4,6 +4,8 @@
 // Every function takes all numbers and all bytes: a link past the end is 0, none, and where there is
 // no room for every record nothing is linked. No public function has a `requires`, and the crate
 // assumes nothing of its own.
+#![tactic(auto)]
+
 mod firsts;
 mod links;
 

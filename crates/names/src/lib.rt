@@ -4,6 +4,8 @@
 // `specs/Put.antt` and its laws, of numbers put into a lent list, stand here for the crates above.
 //
 // No public function has a `requires`, and the crate assumes nothing of its own.
+#![tactic(auto)]
+
 mod message;
 mod parent;
 mod path;

@@ -4,7 +4,7 @@ ghost use Rattle.names.specs.Message.{message_number};
 
 // What an entry says, in the order of document 01. Kind, rule and hint follow from it
 // (docs/MESSAGES.md).
-#[derive(Drop)]
+#[derive(Clone, Copy)]
 pub enum Message {
     UnlistedCurrency,
     OtherCurrency,

@@ -3,7 +3,7 @@ ghost use Rattle.std.specs.Prelude.{◌≡◌};
 ghost use Rattle.names.specs.Parent.{parent_number};
 
 // The elements whose children the reader walks.
-#[derive(Drop)]
+#[derive(Clone, Copy)]
 pub enum Parent {
     Settlement,
     MonetarySummation,

@@ -4,7 +4,7 @@ ghost use Rattle.std.specs.Prelude.{◌≡◌};
 ghost use Rattle.names.specs.Path.{path_number};
 
 // Every path that an entry can have, in the order in which the reader meets them.
-#[derive(Drop)]
+#[derive(Clone, Copy)]
 pub enum Path {
     PaymentMeansFinancialCard,
     PaymentMeansDebtorAccount,

@@ -3,7 +3,7 @@ ghost use Rattle.std.specs.Prelude.{◌≡◌};
 ghost use Rattle.names.specs.Term.{term_number};
 
 // Every term that an entry can have, and none.
-#[derive(Drop)]
+#[derive(Clone, Copy)]
 pub enum Term {
     None,
     Bt106,

@@ -5,6 +5,8 @@
 // provider reaches the account of another payment means. Every function takes all numbers and all
 // lists: what has no room is left out. No public function has a `requires`, and the crate assumes
 // nothing of its own.
+#![tactic(auto)]
+
 mod accounts;
 mod card_or_debit;
 mod instructions;

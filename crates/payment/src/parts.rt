@@ -6,7 +6,7 @@ ghost use Rattle.element.specs.LinkDoc.{link_doc};
 ghost use Rattle.payment.specs.Parts.{part_is};
 
 // What a child is.
-#[derive(Drop)]
+#[derive(Clone, Copy)]
 pub(crate) enum Part {
     TypeCode,
     Information,

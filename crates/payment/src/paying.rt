@@ -2,7 +2,7 @@
 use report::{Cursor, Text, Transfer};
 
 // BG-18: BT-87, BT-88.
-#[derive(Drop)]
+#[derive(Clone, Copy)]
 pub struct PaymentCard {
     pub number: Text,
     pub holder: Text,
@@ -10,7 +10,7 @@ pub struct PaymentCard {
 
 // The kind of means that is held: none yet, a card, a debited account (BT-91), or transfers, whose
 // accounts are rows.
-#[derive(Drop)]
+#[derive(Clone, Copy)]
 pub enum Means {
     Unset,
     Card(PaymentCard),
@@ -19,7 +19,7 @@ pub enum Means {
 }
 
 // Whether a payment means was met, BT-81, BT-82, and the kind of means.
-#[derive(Drop)]
+#[derive(Clone, Copy)]
 pub struct Payment {
     pub met: bool,
     pub code: Text,
@@ -28,14 +28,14 @@ pub struct Payment {
 }
 
 // The last account met, if it was held: its row waits for a provider.
-#[derive(Drop)]
+#[derive(Clone, Copy)]
 pub(crate) enum Waiting {
     Nothing,
     Account(Transfer),
 }
 
 // The payment so far, the account that waits, and where the next rows go.
-#[derive(Drop)]
+#[derive(Clone, Copy)]
 pub(crate) struct Walk {
     pub payment: Payment,
     pub waiting: Waiting,

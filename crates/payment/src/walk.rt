@@ -16,7 +16,7 @@ use names::Parent;
 use report::{Cursor, Unmapped};
 
 // The payment after a payment means, and where the next rows go.
-#[derive(Drop)]
+#[derive(Clone, Copy)]
 pub struct PaymentSaid {
     pub payment: Payment,
     pub cursor: Cursor,

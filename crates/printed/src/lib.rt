@@ -4,6 +4,8 @@
 // Every function takes all numbers and lists of any length, so no public function has a `requires`: a
 // number past the end of a row is 0, an answered row that its list does not have is not printed, and
 // what has no room is left out. The crate assumes nothing of its own.
+#![tactic(auto)]
+
 mod byte_table;
 mod count;
 mod group;

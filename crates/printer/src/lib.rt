@@ -3,6 +3,8 @@
 //
 // The lines are made by crate `printed`, which is proved; here they are only written, until a write fails:
 // what arrives is a beginning of the reading. The crate trusts the C library's `write`, through `io`.
+#![tactic(auto)]
+
 use report::{ENTRY_ROOM, HELD_ROOM, UNMAPPED_ROOM};
 use rulzhamm::rulzhamm_read;
 

@@ -5,7 +5,7 @@ use terms::Terms;
 
 // The refusal (0: read) and its record, how many held rows, entries and unmapped rows there are, and
 // the terms.
-#[derive(Drop)]
+#[derive(Clone, Copy)]
 pub struct Answer {
     pub refusal: u32,
     pub place: usize,

@@ -4,6 +4,8 @@
 // `read` takes all numbers, all bytes and lists of any length. It refuses first, and a refusal changes
 // nothing lent; what it accepts is linked in an array of its own and walked once. No public function
 // has a `requires`, and the crate assumes nothing of its own.
+#![tactic(auto)]
+
 mod answer;
 mod call;
 

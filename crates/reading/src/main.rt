@@ -6,6 +6,8 @@
 // What is fit to be read is decided by crate `inputs`, and the lines are made by crate `printed`; both
 // are proved. Here files are read and `unfit` is written, which trusts the C library's `open`, `read` and
 // `write`.
+#![tactic(auto)]
+
 ghost use Rattle.std.specs.Prelude.{◌≡◌, length};
 
 use inputs::{Fields, Line, bytes_at, input_of, numbers_of};
@@ -15,7 +17,7 @@ const STDIN: i32 = 0;
 const STDOUT: i32 = 1;
 
 // What was read of a file: so many bytes, or nothing where it cannot be read.
-#[derive(Drop)]
+#[derive(Clone, Copy)]
 enum Contents {
     Bytes(usize),
     Unreadable,

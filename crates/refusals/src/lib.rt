@@ -3,6 +3,8 @@
 //
 // `check` takes all numbers and all bytes. No public function has a `requires`, and the crate assumes
 // nothing of its own.
+#![tactic(auto)]
+
 mod refusal;
 
 pub use refusal::{Verdict, check};

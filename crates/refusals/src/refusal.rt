@@ -11,14 +11,14 @@ ghost use Rattle.refusals.specs.Verdicts.{whole, unsound, has_fault, found_at, v
 use table::{Field, field_of, is_named};
 
 // What the checks of a table answer: it is accepted, or refused by a number for a record.
-#[derive(Drop)]
+#[derive(Clone, Copy)]
 pub enum Verdict {
     Accepted,
     Refused(u32, usize),
 }
 
 // What a record is refused for, by 6, 7 or 8.
-#[derive(Drop)]
+#[derive(Clone, Copy)]
 enum Fault {
     Misplaced,
     Outside,
@@ -26,7 +26,7 @@ enum Fault {
 }
 
 // The first record that has a fault.
-#[derive(Drop)]
+#[derive(Clone, Copy)]
 enum Offender {
     At(usize),
     Nowhere,

@@ -4,6 +4,8 @@
 // A case is an input line (mode, rules number, currency, identifier), the table's numbers and, after
 // ` :`, its text. `stdout` has the answers that the Rust gave, or that were worked out from document 01;
 // oracle/README.md says how both files were made.
+#![tactic(auto)]
+
 ghost use Rattle.std.specs.Prelude.{◌≡◌, ◌≤◌, length};
 ghost use Rattle.replay.specs.Case.{space_from, next_space, fields_end};
 

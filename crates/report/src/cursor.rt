@@ -2,7 +2,7 @@
 
 // The places behind what is held and behind the entries, in their lists, and how many unmapped rows
 // there are.
-#[derive(Drop)]
+#[derive(Clone, Copy)]
 pub struct Cursor {
     pub held: usize,
     pub entries: usize,

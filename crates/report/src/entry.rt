@@ -8,7 +8,7 @@ use crate::value::{Index, Text, index_number, signed, text_length, text_start};
 use names::{Message, Path, Term};
 
 // What is said, of which element and term, and the value that it is about.
-#[derive(Drop)]
+#[derive(Clone, Copy)]
 pub struct Entry {
     pub message: Message,
     pub path: Path,

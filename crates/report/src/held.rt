@@ -12,7 +12,7 @@ use crate::value::{
 use amount::InvoiceAmount;
 
 // BG-17 credit transfer: BT-84, BT-85, BT-86.
-#[derive(Drop)]
+#[derive(Clone, Copy)]
 pub struct Transfer {
     pub account: Text,
     pub name: Text,
@@ -20,7 +20,7 @@ pub struct Transfer {
 }
 
 // BG-23 VAT breakdown: BT-116 to BT-121.
-#[derive(Drop)]
+#[derive(Clone, Copy)]
 pub struct Vat {
     pub taxable: InvoiceAmount,
     pub tax: InvoiceAmount,
@@ -31,7 +31,7 @@ pub struct Vat {
 }
 
 // BG-20 document level allowance or BG-21 charge: BT-92 to BT-98, BT-99 to BT-105.
-#[derive(Drop)]
+#[derive(Clone, Copy)]
 pub struct AllowanceCharge {
     pub amount: InvoiceAmount,
     pub base: Amount,
@@ -43,7 +43,7 @@ pub struct AllowanceCharge {
 }
 
 // BG-3 preceding invoice: BT-25, BT-26.
-#[derive(Drop)]
+#[derive(Clone, Copy)]
 pub struct Preceding {
     pub reference: Place,
     pub date: Day,

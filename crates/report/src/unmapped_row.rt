@@ -8,7 +8,7 @@ use crate::value::{Place, signed};
 use names::Parent;
 
 // The element's parent and its name.
-#[derive(Drop)]
+#[derive(Clone, Copy)]
 pub struct Unmapped {
     pub parent: Parent,
     pub name: Place,

@@ -10,7 +10,7 @@ use amount::{InvoiceAmount, Percentage};
 // A text's place in the lent text: where the record's text starts, how many bytes were trimmed off
 // its front, and the length of what is left. The two are not added, so that a place has no limit
 // beyond that of a record's numbers; the methods answer their sum.
-#[derive(Drop)]
+#[derive(Clone, Copy)]
 pub struct Place {
     start: u32,
     skip: u32,
@@ -18,35 +18,35 @@ pub struct Place {
 }
 
 // A text that may be absent.
-#[derive(Drop)]
+#[derive(Clone, Copy)]
 pub enum Text {
     Absent,
     At(Place),
 }
 
 // An amount that may be absent.
-#[derive(Drop)]
+#[derive(Clone, Copy)]
 pub enum Amount {
     Absent,
     Of(InvoiceAmount),
 }
 
 // A percentage that may be absent.
-#[derive(Drop)]
+#[derive(Clone, Copy)]
 pub enum Percent {
     Absent,
     Of(Percentage),
 }
 
 // A date, CCYYMMDD, that may be absent.
-#[derive(Drop)]
+#[derive(Clone, Copy)]
 pub enum Day {
     Absent,
     On(u32),
 }
 
 // The place of a group among those of its kind, where the entry is about one.
-#[derive(Drop)]
+#[derive(Clone, Copy)]
 pub enum Index {
     Absent,
     At(u32),

@@ -5,6 +5,8 @@
 // The reader takes all numbers, all bytes and lists of any length, and a refusal changes nothing but the
 // answer. The compiler proves nothing of the caller: that a pointer leads to as many elements as the
 // length beside it says, and that what is lent for writing is lent once, is the host's part.
+#![tactic(auto)]
+
 mod call;
 mod groups_row;
 mod terms_row;

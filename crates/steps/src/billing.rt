@@ -18,7 +18,7 @@ use report::Cursor;
 use values::Lent;
 
 // What was said so far of when and how is paid, and where the next rows go.
-#[derive(Drop)]
+#[derive(Clone, Copy)]
 pub struct Billed {
     pub billing: Billing,
     pub cursor: Cursor,

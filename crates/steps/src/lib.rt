@@ -4,6 +4,8 @@
 // The state goes by value, in parts, and a child's function is given its own; entries, transfers' rows and
 // unmapped names go to the lent lists, each behind what it had. A document is lent as a table, its text and
 // its links (crate `element`). No public function has a `requires`, and the crate assumes nothing of its own.
+#![tactic(auto)]
+
 mod billing;
 mod plain;
 mod state;

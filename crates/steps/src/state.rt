@@ -7,35 +7,35 @@ use report::{Cursor, Day, Text};
 use totals::Totals;
 
 // BT-83: whether a PaymentReference was met, and its text.
-#[derive(Drop)]
+#[derive(Clone, Copy)]
 pub enum Reference {
     Absent,
     Met(Text),
 }
 
 // BG-10, if there is one.
-#[derive(Drop)]
+#[derive(Clone, Copy)]
 pub enum MaybePayee {
     Absent,
     Of(Payee),
 }
 
 // BG-14, if there is one.
-#[derive(Drop)]
+#[derive(Clone, Copy)]
 pub enum MaybePeriod {
     Absent,
     Of(Period),
 }
 
 // BG-22, if there is one.
-#[derive(Drop)]
+#[derive(Clone, Copy)]
 pub enum MaybeTotals {
     Absent,
     Of(Totals),
 }
 
 // What one child gives alone: BT-90, BT-83, BT-6, BT-5, BG-10 and BT-19.
-#[derive(Drop)]
+#[derive(Clone, Copy)]
 pub struct Plain {
     pub creditor: Text,
     pub reference: Reference,
@@ -47,7 +47,7 @@ pub struct Plain {
 
 // What is kept of children that make rows: VAT so far, and how many allowances, charges and preceding invoices
 // there are.
-#[derive(Drop)]
+#[derive(Clone, Copy)]
 pub struct Tally {
     pub vat: VatState,
     pub allowances: u32,
@@ -56,7 +56,7 @@ pub struct Tally {
 }
 
 // When and how is paid: BG-14, the payment terms and BG-16.
-#[derive(Drop)]
+#[derive(Clone, Copy)]
 pub struct Billing {
     pub period: MaybePeriod,
     pub terms: PaymentTerms,
@@ -65,7 +65,7 @@ pub struct Billing {
 
 // The reading so far, in parts, so that a child's function is given no more than its own: with BG-22, and
 // where the next rows go.
-#[derive(Drop)]
+#[derive(Clone, Copy)]
 pub struct State {
     pub plain: Plain,
     pub tally: Tally,

@@ -15,7 +15,7 @@ use totals::Currencies;
 use values::Lent;
 
 // Totals, and where the next rows go.
-#[derive(Drop)]
+#[derive(Clone, Copy)]
 pub struct Summed {
     pub totals: MaybeTotals,
     pub cursor: Cursor,

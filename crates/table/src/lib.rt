@@ -4,6 +4,8 @@
 // Every function takes all numbers and all bytes: a record that the table does not have reads as
 // zeros, and of a place outside the text the bytes are those that the text has. No public function
 // has a `requires`, and the crate assumes nothing of its own.
+#![tactic(auto)]
+
 mod record;
 
 pub use record::{Field, count, field_at, field_of, find, is_named, joined_text, name};

@@ -5,7 +5,7 @@ ghost use Rattle.table.specs.Table.{records, cell, name_of, text_of, named, kin,
 ghost use Rattle.table.specs.Fields.{place};
 
 // A number of a record.
-#[derive(Drop)]
+#[derive(Clone, Copy)]
 pub enum Field {
     Kind,
     Parent,

@@ -5,6 +5,8 @@
 // text of M zero bytes. The answer is the verdict, the children (`>`) and attributes (`@`) of each
 // record by its links, and for each later record the first of its kind and name under its parent.
 // Of long tables the first 64 records are shown. tools/tables.py writes cases and answers.
+#![tactic(auto)]
+
 mod answer;
 
 ghost use Rattle.std.specs.Prelude.{◌≡◌};

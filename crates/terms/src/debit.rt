@@ -16,7 +16,7 @@ use payment::Means;
 use report::Text;
 
 // The means with mandate and creditor identifier, and where the next entry goes.
-#[derive(Drop)]
+#[derive(Clone, Copy)]
 pub(crate) struct Debit {
     pub means: Means,
     pub mandate: Text,

@@ -19,7 +19,7 @@ use steps::{MaybeTotals, Reference, State};
 use totals::Totals;
 
 // The terms, and where the next entry would go.
-#[derive(Drop)]
+#[derive(Clone, Copy)]
 pub struct Finished {
     pub terms: Terms,
     pub at: usize,

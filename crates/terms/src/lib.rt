@@ -3,6 +3,8 @@
 //
 // Every function takes all numbers, all states and lists of any length. No public function has a `requires`,
 // and the crate assumes nothing of its own.
+#![tactic(auto)]
+
 mod debit;
 mod finishing;
 mod terms;

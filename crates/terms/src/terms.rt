@@ -14,7 +14,7 @@ use totals::{Sums, Totals};
 
 // BT-5 to BT-9, BT-19 and BT-20, BG-10, BG-14, whether there is BG-16, BT-81 to BT-83, BG-18 or
 // BG-19, BT-89 and BT-90, and BG-22.
-#[derive(Drop)]
+#[derive(Clone, Copy)]
 pub struct Terms {
     pub bt5: Text,
     pub bt6: Text,

@@ -5,7 +5,7 @@ ghost use Rattle.text.specs.Digits.{digit, numeral_from, numeral_of};
 use crate::range::is_within;
 
 // A number of 32 bits, or that there is none.
-#[derive(Drop)]
+#[derive(Clone, Copy)]
 pub enum Numeral {
     Number(u32),
     Unfit,

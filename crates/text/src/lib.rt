@@ -3,6 +3,8 @@
 //
 // Every function takes all bytes and all numbers. No public function has a `requires`, and the
 // crate assumes nothing of its own.
+#![tactic(auto)]
+
 mod digit;
 mod order;
 mod place;

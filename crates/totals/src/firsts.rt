@@ -16,14 +16,14 @@ use report::Amount;
 use values::Site;
 
 // What the first child of a name says as an amount, and where.
-#[derive(Drop)]
+#[derive(Clone, Copy)]
 pub(crate) struct First {
     pub(crate) heard: Heard,
     pub(crate) site: Site,
 }
 
 // That of the first AllowanceTotalAmount, ChargeTotalAmount, RoundingAmount and TotalPrepaidAmount.
-#[derive(Drop)]
+#[derive(Clone, Copy)]
 pub(crate) struct Firsts {
     pub(crate) allowance: First,
     pub(crate) charge: First,

@@ -6,6 +6,8 @@
 // apart by the currencies read so far, BT-5 and BT-6, and not by the currency that is lent. A document
 // is lent as a table, its text and its links (crate `element`). No public function has a `requires`,
 // and the crate assumes nothing of its own.
+#![tactic(auto)]
+
 mod firsts;
 mod state;
 mod sum;

@@ -4,7 +4,7 @@ use report::{Amount, Cursor, Text};
 use values::Lent;
 
 // The amounts that may be absent: BT-107, BT-108, BT-110, BT-111, BT-113 and BT-114.
-#[derive(Drop)]
+#[derive(Clone, Copy)]
 pub struct Sums {
     pub allowance: Amount,
     pub charge: Amount,
@@ -15,7 +15,7 @@ pub struct Sums {
 }
 
 // BG-22: BT-106, BT-109, BT-112 and BT-115, and the amounts that may be absent.
-#[derive(Drop)]
+#[derive(Clone, Copy)]
 pub struct Totals {
     pub line: InvoiceAmount,
     pub taxable: InvoiceAmount,
@@ -25,21 +25,21 @@ pub struct Totals {
 }
 
 // Totals, and where the next rows go.
-#[derive(Drop)]
+#[derive(Clone, Copy)]
 pub struct TotalsSaid {
     pub totals: Totals,
     pub cursor: Cursor,
 }
 
 // BT-5 and BT-6 as read so far.
-#[derive(Drop)]
+#[derive(Clone, Copy)]
 pub struct Currencies {
     pub bt5: Text,
     pub bt6: Text,
 }
 
 // What the children of a summation n are read by.
-#[derive(Drop)]
+#[derive(Clone, Copy)]
 pub(crate) struct Frame {
     pub(crate) lent: Lent,
     pub(crate) read: Currencies,

@@ -6,7 +6,7 @@ ghost use Rattle.element.specs.LinkDoc.{link_doc};
 ghost use Rattle.totals.specs.State.{sum_is};
 
 // An optional amount in the currency of the invoice: BT-107, BT-108, BT-114 or BT-113.
-#[derive(Drop)]
+#[derive(Clone, Copy)]
 pub(crate) enum Optional {
     AllowanceTotal,
     ChargeTotal,
@@ -15,7 +15,7 @@ pub(crate) enum Optional {
 }
 
 // What a child is: read once after all others, an optional amount, a tax total, or unmapped.
-#[derive(Drop)]
+#[derive(Clone, Copy)]
 pub(crate) enum Sum {
     Required,
     Optional(Optional),

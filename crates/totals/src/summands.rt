@@ -14,14 +14,14 @@ use names::Parent;
 use report::{Amount, Cursor, Unmapped};
 
 // BT-110 and BT-111, and where the next rows go.
-#[derive(Drop)]
+#[derive(Clone, Copy)]
 struct Walked {
     taxes: Taxes,
     cursor: Cursor,
 }
 
 // The amounts that may be absent, and where the next rows go.
-#[derive(Drop)]
+#[derive(Clone, Copy)]
 pub(crate) struct SumsSaid {
     pub(crate) sums: Sums,
     pub(crate) cursor: Cursor,

@@ -14,14 +14,14 @@ use report::{Amount, Place, Text};
 use values::Lent;
 
 // BT-110 and BT-111.
-#[derive(Drop)]
+#[derive(Clone, Copy)]
 pub(crate) struct Taxes {
     pub(crate) vat: Amount,
     pub(crate) accounting: Amount,
 }
 
 // The two, and where the next entry goes.
-#[derive(Drop)]
+#[derive(Clone, Copy)]
 pub(crate) struct TaxesSaid {
     pub(crate) taxes: Taxes,
     pub(crate) at: usize,

@@ -4,6 +4,8 @@
 // The rows held so far are read back from the list, whatever it holds: a negative number reads as 0.
 // Where the list has no room for one row more, nothing changes. No public function has a `requires`,
 // and the crate assumes nothing of its own.
+#![tactic(auto)]
+
 mod note;
 mod row;
 mod search;

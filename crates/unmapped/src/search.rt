@@ -8,7 +8,7 @@ use report::Unmapped;
 use text::Ordering;
 
 // Where a row goes, unless its parent and name are there already.
-#[derive(Drop)]
+#[derive(Clone, Copy)]
 pub(crate) enum Spot {
     Taken,
     Free(usize),

@@ -19,7 +19,7 @@ use report::{Day, Place, Text};
 
 // How a date is spelled: whether it is a tax point, which is a DateString, as no other date is, and the paths of
 // its DateTimeString and DateString.
-#[derive(Drop)]
+#[derive(Clone, Copy)]
 pub struct DatePaths {
     pub point: bool,
     pub time: Path,
@@ -27,7 +27,7 @@ pub struct DatePaths {
 }
 
 // A date, and where the next entry goes.
-#[derive(Drop)]
+#[derive(Clone, Copy)]
 pub struct DateSaid {
     pub day: Day,
     pub at: usize,

@@ -1,7 +1,7 @@
 // What is lent beside a table.
 
 // The mode, the rules number, and whether the specification identifier is that of a conformant extension.
-#[derive(Drop)]
+#[derive(Clone, Copy)]
 pub struct Lent {
     pub mode: u32,
     pub rules: u32,

@@ -5,6 +5,8 @@
 // answers where the next goes after it. A percentage or a code is read from the text of a child that was looked
 // for, a date from the child itself (0: there is none). No public function has a `requires`, and the crate
 // assumes nothing of its own.
+#![tactic(auto)]
+
 mod dates;
 mod lent;
 mod locating;

@@ -12,7 +12,7 @@ use names::Message;
 use report::{Percent, Place, Text};
 
 // A percentage, and where the next entry goes.
-#[derive(Drop)]
+#[derive(Clone, Copy)]
 pub struct PercentSaid {
     pub percent: Percent,
     pub at: usize,

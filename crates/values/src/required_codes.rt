@@ -9,7 +9,7 @@ use names::Message;
 use report::{Place, Text};
 
 // A required code, empty where it is missing, and where the next entry goes.
-#[derive(Drop)]
+#[derive(Clone, Copy)]
 pub struct RequiredCode {
     pub code: Place,
     pub at: usize,

@@ -10,7 +10,7 @@ use names::{Message, Path, Term};
 use report::{Entry, Index, Text};
 
 // Where an entry is made: the element's path, the term, and the index of its group.
-#[derive(Drop)]
+#[derive(Clone, Copy)]
 pub struct Site {
     pub(crate) path: Path,
     pub(crate) term: Term,

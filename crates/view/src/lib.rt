@@ -6,6 +6,8 @@
 //
 // Every function takes all bytes and all numbers. No public function has a `requires`, and the
 // crate assumes nothing of its own.
+#![tactic(auto)]
+
 mod place;
 mod value;
 

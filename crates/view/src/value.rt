@@ -6,7 +6,7 @@ ghost use Rattle.view.specs.View.{lies, shown_at};
 use crate::place::{is_shown, shown};
 
 // The lent text, and where the value starts and how long it is: -1 and 0 where it is absent.
-#[derive(Drop)]
+#[derive(Clone, Copy)]
 pub struct View<'a> {
     text: &'a [u8],
     start: i64,

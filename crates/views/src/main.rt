@@ -3,6 +3,8 @@
 //
 // A line is a place (start and length), `there` or `none`, and behind a colon the bytes that the view
 // answers. tools/views.py has the lines that must come, written from document 01 ("Rows").
+#![tactic(auto)]
+
 use decimals::{put_byte, put_signed};
 
 const STDOUT: i32 = 1;
