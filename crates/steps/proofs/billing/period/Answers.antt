@@ -1,18 +1,12 @@
 use mathlib.Core.Path.{refl}
-use borrow.Author.Rules.{rules}
 use Rattle.steps.proofs.Stepping.{lanes, none_held, none_noted}
 use Rattle.steps.specs.Steps.{act_by, step_by}
 use Rattle.settlement.specs.Kinds.{same_kind, home}
 use Rattle.settlement.specs.Settlement.{own, period_of}
-use Rattle.steps.proofs.billing.period.Statement.{statement}
-use Rattle.steps.proofs.billing.period.Tie as tie
+use Rattle.steps.proofs.billing.period.Goals as goal
 
-returns : tie.Need-returns
+pub returns : goal.returns
 unfolding step_by act_by own period_of home same_kind
 returns c currency p t m h u =
-    let said = c.before.before.before.before.period.ensures in
+    let said = c.period-said.ensures in
     record { state = lanes refl refl refl refl refl refl refl said.same refl refl refl refl refl refl refl; held = none_held refl refl h; said = said.said; noted = none_noted refl refl _ u }
-
-pub period-spec : {M : Type 1} → statement M
-period-spec =
-    tie.close (tie.spec (λ c κs. search rules) (λ c. search rules) returns)
