@@ -1,8 +1,8 @@
 -- The optional amounts of a summation are what the first child of each name says.
-use mathlib.Core.Path.{◌≡◌, refl, ap, ◌∙◌}
-use mathlib.Core.Bool.{Bool, true, false, cond}
+use mathlib.Core.Path.{◌≡◌, refl, ◌∙◌}
+use mathlib.Core.Bool.{Bool, true, false}
 use mathlib.Core.List.{List, [], ◌∷◌, foldl}
-use mathlib.Core.Option.{Option, none, some}
+use mathlib.Core.Option.{Option, none}
 use Prim.Native.Nat.{ℕ}
 use Prim.Native.String.{String}
 use lib.IntN.{ℤ}
@@ -10,11 +10,9 @@ use Rattle.text.specs.Order.{equal}
 use Rattle.text.specs.Utf8.{bytes, encode}
 use Rattle.text.proofs.Orders.{equal_is}
 use Rattle.names.specs.declared.path.Path.{Path}
-use Rattle.names.specs.declared.path.Path.TheVariants as Path
 use Rattle.names.specs.declared.term.Term.{Term}
-use Rattle.names.specs.declared.term.Term.TheVariants as Term
 use Rattle.report.specs.Rows.{Place}
-use Rattle.settlement.specs.Document.{Doc, maybe}
+use Rattle.settlement.specs.Document.{Doc}
 use Rattle.settlement.specs.Kinds.{meant}
 use Rattle.settlement.specs.Shapes.{Currencies}
 use Rattle.settlement.specs.Summation.{Sum, required, allowance_total, charge_total, tax_total, rounding, prepaid, Summing, with_vat, sums, sum_of, summand, summing, summed}

@@ -1,7 +1,7 @@
 -- Laws of one child of a summation, after what was read before it.
-use mathlib.Core.Path.{◌≡◌, refl, ap, ◌∙◌}
+use mathlib.Core.Path.{◌≡◌, refl}
 use mathlib.Core.Bool.{Bool, true, false}
-use mathlib.Core.List.{List, ◌∷◌, []}
+use mathlib.Core.List.{List}
 use mathlib.Core.Option.{Option, none, some}
 use Prim.Native.Nat.{ℕ}
 use lib.IntN.{ℤ}
@@ -19,13 +19,10 @@ use Rattle.unmapped.specs.Acted.{Acted}
 use Rattle.unmapped.specs.Noting.{noting, Noted}
 use Rattle.unmapped.proofs.Notings.{notings_more}
 use Rattle.totals.specs.State.{sum_is}
-use Rattle.totals.specs.Reading.{taxes_of, taxes, made, taxing, taxed, said_by, first_of, Hears}
+use Rattle.totals.specs.Reading.{taxes, made, taxing, taxed, said_by, first_of, Hears}
 use Rattle.totals.specs.declared.firsts.Firsts.{Firsts}
 use Rattle.totals.specs.declared.sum.Optional.{Optional}
-use Rattle.totals.specs.declared.sum.Optional.TheVariants as Optional
 use Rattle.totals.specs.declared.sum.Sum.{Sum}
-use Rattle.totals.specs.declared.sum.Sum.TheVariants as Sum
-use Rattle.totals.specs.declared.tax.Taxes.{Taxes}
 
 -- a state with the BT-110 and BT-111 of another, behind which that says what it says
 abbrev pub beside : Summing Place → Summing Place → Summing Place

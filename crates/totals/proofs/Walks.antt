@@ -1,5 +1,5 @@
 -- Laws of the walk over a summation's children, and of the totals after it.
-use mathlib.Core.Path.{◌≡◌, refl, sym, ap, ◌∙◌, subst}
+use mathlib.Core.Path.{◌≡◌, refl, ap, subst}
 use mathlib.Core.Logic.{◌≢◌}
 use mathlib.Core.List.{List, foldl}
 use mathlib.Core.Option.{Option, none, some}

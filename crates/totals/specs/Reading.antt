@@ -18,7 +18,6 @@ use Rattle.totals.specs.declared.state.Currencies as CodeCurrencies
 use Rattle.totals.specs.declared.state.Sums as Code
 use Rattle.totals.specs.declared.state.Totals as CodeTotals
 use Rattle.totals.specs.declared.sum.Optional.{Optional}
-use Rattle.totals.specs.declared.sum.Optional.TheVariants as Optional
 use Rattle.totals.specs.declared.tax.Taxes.{Taxes}
 
 -- BT-5 and BT-6 as read so far

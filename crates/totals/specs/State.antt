@@ -2,7 +2,6 @@
 use Rattle.settlement.specs.Summation.{Sum, required, allowance_total, charge_total, tax_total, rounding, prepaid}
 use Rattle.settlement.specs.Summation as Def
 use Rattle.totals.specs.declared.sum.Optional.{Optional}
-use Rattle.totals.specs.declared.sum.Optional.TheVariants as Optional
 use Rattle.totals.specs.declared.sum.Sum as Code
 use Rattle.totals.specs.declared.sum.Sum.TheVariants as CodeSum
 
