@@ -1,13 +1,19 @@
 use mathlib.Core.Path.{refl, ◌∙◌}
-use Rattle.children.proofs.Acting.{allowance_acted, allowance_more}
+use Rattle.children.proofs.Acting.{allowance_acted, charge_more, allowance_more}
 use Rattle.steps.proofs.Stepping.{lanes}
 use Rattle.steps.specs.Steps.{act_by, step_by}
 use Rattle.settlement.specs.Kinds.{same_kind, home}
 use Rattle.settlement.specs.Settlement.{own}
 use Rattle.children.proofs.rows.allowance_charge.Goals as goal
 
-pub unreachable : goal.unreachable
+pub returns-then-charge : goal.returns-then-charge
 unfolding step_by act_by own home same_kind
-unreachable c =
-    let acted = allowance_acted _ _ _ _ _ u _ c.allowance-charge.ensures c.put-allowance-or-charge.ensures in
-    record { state = lanes refl refl refl refl refl refl refl refl (allowance_more c.if1.false _ ∙ acted.same) refl refl refl refl refl refl; held = acted.held; said = acted.said; noted = acted.noted }
+returns-then-charge c p b m u =
+    let acted = allowance_acted _ _ _ _ _ u _ c.allowance_charge-said.ensures c.put_allowance_or_charge.ensures in
+    record { state = lanes refl refl refl refl refl refl refl refl (charge_more c.if-charge.true _ ∙ acted.same) refl refl refl refl refl refl; held = acted.held; said = acted.said; noted = acted.noted }
+
+pub returns : goal.returns
+unfolding step_by act_by own home same_kind
+returns c p b m u =
+    let acted = allowance_acted _ _ _ _ _ u _ c.allowance_charge-said.ensures c.put_allowance_or_charge.ensures in
+    record { state = lanes refl refl refl refl refl refl refl refl (allowance_more c.if-charge.false _ ∙ acted.same) refl refl refl refl refl refl; held = acted.held; said = acted.said; noted = acted.noted }

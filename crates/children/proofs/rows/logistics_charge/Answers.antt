@@ -1,13 +1,19 @@
 use mathlib.Core.Path.{refl, ◌∙◌}
-use Rattle.children.proofs.Acting.{logistics_held, charge_more}
+use Rattle.children.proofs.Acting.{logistics_held, logistics-left, charge_more}
 use Rattle.steps.proofs.Stepping.{lanes}
 use Rattle.steps.specs.Steps.{act_by, step_by}
 use Rattle.settlement.specs.Kinds.{same_kind, home}
 use Rattle.settlement.specs.Settlement.{own}
 use Rattle.children.proofs.rows.logistics_charge.Goals as goal
 
-pub unreachable : goal.unreachable
+pub returns-in-Absent : goal.returns-in-Absent
 unfolding step_by act_by own home same_kind
-unreachable c =
-    let acted = logistics_held _ _ _ _ _ u _ (rw c.charge.given.1 at c.logistics-charge.ensures) c.put-charge.ensures in
+returns-in-Absent c p b m u =
+    let acted = logistics-left _ _ _ _ _ u _ (rw c.in-Absent.is at c.logistics_charge-said.ensures) _ in
+    record { state = lanes refl refl refl refl refl refl refl refl acted.same refl refl refl refl refl refl; held = acted.held; said = acted.said; noted = acted.noted }
+
+pub returns-in-Of : goal.returns-in-Of
+unfolding step_by act_by own home same_kind
+returns-in-Of c p b m u =
+    let acted = logistics_held _ _ _ _ _ u _ (rw c.in-Of.is at c.logistics_charge-said.ensures) c.put_charge.ensures in
     record { state = lanes refl refl refl refl refl refl refl refl (charge_more refl _ ∙ acted.same) refl refl refl refl refl refl; held = acted.held; said = acted.said; noted = acted.noted }

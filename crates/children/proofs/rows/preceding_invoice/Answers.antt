@@ -7,8 +7,8 @@ use Rattle.settlement.specs.Kinds.{same_kind, home}
 use Rattle.settlement.specs.Settlement.{own}
 use Rattle.children.proofs.rows.preceding_invoice.Goals as goal
 
-pub unreachable : goal.unreachable
+pub returns : goal.returns
 unfolding step_by act_by own home same_kind
-unreachable c =
-    let acted = preceding_acted (lent_of c.args.lent currency) _ _ _ _ u _ c.preceding.ensures c.put-preceding.ensures in
+returns c currency p b m u =
+    let acted = preceding_acted (lent_of c.args.lent currency) _ _ _ _ u _ c.preceding-said.ensures c.put_preceding.ensures in
     record { state = lanes refl refl refl refl refl refl refl refl refl refl refl refl acted.same refl refl; held = acted.held; said = acted.said; noted = acted.noted }

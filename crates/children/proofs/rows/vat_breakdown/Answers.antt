@@ -6,8 +6,8 @@ use Rattle.settlement.specs.Kinds.{same_kind, home}
 use Rattle.settlement.specs.Settlement.{own}
 use Rattle.children.proofs.rows.vat_breakdown.Goals as goal
 
-pub unreachable : goal.unreachable
+pub returns : goal.returns
 unfolding step_by act_by own home same_kind
-unreachable c =
-    let acted = vat_acted _ _ _ _ _ u _ c.vat-breakdown.ensures c.put-vat.ensures in
+returns c p b m u =
+    let acted = vat_acted _ _ _ _ _ u _ c.vat_breakdown-said.ensures c.put_vat.ensures in
     record { state = lanes refl refl refl refl refl refl acted.same refl refl refl refl refl refl refl refl; held = acted.held; said = acted.said; noted = acted.noted }

@@ -6,12 +6,12 @@ use Rattle.settlement.specs.Settlement.{own}
 use Rattle.unmapped.proofs.Notings.{notings_one}
 use Rattle.children.proofs.walk.unmapped_child.Goals as goal
 
-pub unreachable : goal.unreachable
+pub returns : goal.returns
 unfolding step_by act_by own home same_kind
-unreachable c =
+returns c L p t b m h e =
     record {
       state = lanes refl refl refl refl refl refl refl refl refl refl refl refl refl refl refl;
       held = none_held refl refl h;
       said = none_said refl refl e;
-      noted = notings_one _ _ _ _ (rw c.name.ensures at c.note-unmapped.ensures);
+      noted = notings_one _ _ _ _ (rw c.name.ensures at c.note_unmapped.ensures);
     }
