@@ -1,12 +1,9 @@
-use Rattle.std.proofs.lemmas.Bool.Decides.{nat_tests}
-use Rattle.std.proofs.Common.{rules}
-use Rattle.std.proofs.Common.{tests}
-use mathlib.Core.Logic.{⊎_elim}
 use mathlib.Core.Path.{refl}
 use native.Mathlib.Omega.{arith}
 use Rattle.children.proofs.Counting.{counted_within}
 use Rattle.children.proofs.Reaching.{reached_start, reached_step, reached_zero, reached_out}
 use Rattle.children.proofs.walk.read_children.Goals as goal
+use Rattle.children.proofs.walk.read_children.Goals.{in-Plain, in-Row, in-Billing, in-Summation, in-Other}
 
 pub loop-left-init : goal.loop-left-init
 loop-left-init c = (search reached_start, omega arith, refl, refl, refl)
@@ -18,16 +15,44 @@ pub row_child-said-requires : goal.row_child-said-requires
 row_child-said-requires c = counted_within c.loop-left.invariant.0.counted (omega arith)
 
 pub loop-left-preserved : goal.loop-left-preserved
-loop-left-preserved c = ⊎_elim
-    (λ w. (reached_step _ _ _ _ _ _ _ _ _ c.loop-left.invariant.0 c.loop-left-test.true c.loop-left.invariant.1 c.if-c-eq0.false w.1.given.1 c.kind_of-kind.ensures (w.3.ensures _ _ _ _ _ _ _ _) w.4 w.5 w.6 w.7 w.8 w.9 w.10 w.11 _ c.next_of-c.ensures, omega arith, rw w.4 (omega arith), rw w.5 (omega arith), rw w.6 (omega arith)))
-    (⊎_elim
-    (λ w. (reached_step _ _ _ _ _ _ _ _ _ c.loop-left.invariant.0 c.loop-left-test.true c.loop-left.invariant.1 c.if-c-eq0.false w.1.given.1 c.kind_of-kind.ensures (w.5.ensures _ _ _ _) w.10 w.11 w.12 w.13 w.14 w.15 w.16 w.17 _ c.next_of-c.ensures, omega arith, rw w.10 (omega arith), rw w.11 (omega arith), rw w.12 (omega arith)))
-    (⊎_elim
-    (λ w. (reached_step _ _ _ _ _ _ _ _ _ c.loop-left.invariant.0 c.loop-left-test.true c.loop-left.invariant.1 c.if-c-eq0.false w.1.given.1 c.kind_of-kind.ensures (w.6.ensures _ _ _ _) w.12 w.13 w.14 w.15 w.16 w.17 w.18 w.19 _ c.next_of-c.ensures, omega arith, rw w.12 (omega arith), rw w.13 (omega arith), rw w.14 (omega arith)))
-    (⊎_elim
-    (λ w. (reached_step _ _ _ _ _ _ _ _ _ c.loop-left.invariant.0 c.loop-left-test.true c.loop-left.invariant.1 c.if-c-eq0.false w.1.given.1 c.kind_of-kind.ensures (w.4.ensures _ _ _ _) w.8 w.9 w.10 w.11 w.12 w.13 w.14 w.15 _ c.next_of-c.ensures, omega arith, rw w.8 (omega arith), rw w.9 (omega arith), rw w.10 (omega arith)))
-    (λ w. (reached_step _ _ _ _ _ _ _ _ _ c.loop-left.invariant.0 c.loop-left-test.true c.loop-left.invariant.1 c.if-c-eq0.false w.1.given.1 c.kind_of-kind.ensures (w.3.ensures _ _ _ _ _ _ _) w.5 w.6 w.7 w.8 w.9 w.10 w.11 w.12 _ c.next_of-c.ensures, omega arith, rw w.5 (omega arith), rw w.6 (omega arith), rw w.7 (omega arith))))))
-    c.match-kind.branch
+loop-left-preserved c =
+    elim c.match-kind.branch [
+      | in-Plain w ↦ (
+        reached_step _ _ _ _ _ _ _ _ _ c.loop-left.invariant.0 c.loop-left-test.true c.loop-left.invariant.1 c.if-c-eq0.false w.in-Plain.is c.kind_of-kind.ensures (w.plain_child-plain.ensures _ _ _ _ _ _ _ _) w.held-is w.entries-is w.unmapped-is w.plain-is w.tally-is w.billing-is w.totals-is w.cursor-is _ c.next_of-c.ensures,
+        omega arith,
+        omega (arith, c.match-kind.auto.held),
+        omega (arith, c.match-kind.auto.entries),
+        omega (arith, c.match-kind.auto.unmapped),
+      )
+      | in-Row w ↦ (
+        reached_step _ _ _ _ _ _ _ _ _ c.loop-left.invariant.0 c.loop-left-test.true c.loop-left.invariant.1 c.if-c-eq0.false w.in-Row.is c.kind_of-kind.ensures (w.row_child-said.ensures _ _ _ _) w.held-is w.entries-is w.unmapped-is w.plain-is w.tally-is w.billing-is w.totals-is w.cursor-is _ c.next_of-c.ensures,
+        omega arith,
+        omega (arith, c.match-kind.auto.held),
+        omega (arith, c.match-kind.auto.entries),
+        omega (arith, c.match-kind.auto.unmapped),
+      )
+      | in-Billing w ↦ (
+        reached_step _ _ _ _ _ _ _ _ _ c.loop-left.invariant.0 c.loop-left-test.true c.loop-left.invariant.1 c.if-c-eq0.false w.in-Billing.is c.kind_of-kind.ensures (w.billing_child-said.ensures _ _ _ _) w.held-is w.entries-is w.unmapped-is w.plain-is w.tally-is w.billing-is w.totals-is w.cursor-is _ c.next_of-c.ensures,
+        omega arith,
+        omega (arith, c.match-kind.auto.held),
+        omega (arith, c.match-kind.auto.entries),
+        omega (arith, c.match-kind.auto.unmapped),
+      )
+      | in-Summation w ↦ (
+        reached_step _ _ _ _ _ _ _ _ _ c.loop-left.invariant.0 c.loop-left-test.true c.loop-left.invariant.1 c.if-c-eq0.false w.in-Summation.is c.kind_of-kind.ensures (w.summation-said.ensures _ _ _ _) w.held-is w.entries-is w.unmapped-is w.plain-is w.tally-is w.billing-is w.totals-is w.cursor-is _ c.next_of-c.ensures,
+        omega arith,
+        omega (arith, c.match-kind.auto.held),
+        omega (arith, c.match-kind.auto.entries),
+        omega (arith, c.match-kind.auto.unmapped),
+      )
+      | in-Other w ↦ (
+        reached_step _ _ _ _ _ _ _ _ _ c.loop-left.invariant.0 c.loop-left-test.true c.loop-left.invariant.1 c.if-c-eq0.false w.in-Other.is c.kind_of-kind.ensures (w.unmapped_child-cursor.ensures _ _ _ _ _ _ _) w.held-is w.entries-is w.unmapped-is w.plain-is w.tally-is w.billing-is w.totals-is w.cursor-is _ c.next_of-c.ensures,
+        omega arith,
+        omega (arith, c.match-kind.auto.held),
+        omega (arith, c.match-kind.auto.entries),
+        omega (arith, c.match-kind.auto.unmapped),
+      )
+    ]
 
 pub returns : goal.returns
 returns c = reached_out _ _ _ _ _ _ _ _ _ c.loop-left.invariant.0 c.loop-left-test.false

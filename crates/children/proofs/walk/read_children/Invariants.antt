@@ -1,9 +1,9 @@
-use mathlib.Core.Path.{◌≡◌, refl}
+use mathlib.Core.Path.{◌≡◌}
 use Prim.Native.Nat.{◌/◌, ◌≤◌}
 use lib.ListN.{length}
 use Rattle.values.specs.Sites.{lent_of}
 use Rattle.steps.specs.States.{state}
-use Rattle.children.proofs.Reaching.{Reached, reached_start, reached_step, reached_zero, reached_out}
+use Rattle.children.proofs.Reaching.{Reached}
 use Rattle.children.proofs.walk.read_children.Given as goal
 
 abbrev pub invariant-loop-left : goal.invariant-loop-left
