@@ -59,7 +59,7 @@ def respelled(antt):
     declared = {n for n in declared if not n.startswith("_") and n != "◌"}
     new, kept = {}, []
     taken = collections.Counter()
-    lower = {n: snake(n) for n in declared if n[0].islower() or not n[0].isalpha()}
+    lower = {n: snake(n) for n in declared if not n[0].isdigit() and not n[0].isupper()}
     for n in sorted(lower):
         taken[lower[n].replace("-", "_")] += 1
     for n, s in sorted(lower.items()):

@@ -27,7 +27,7 @@ module _ {k : ℕ} (h : k < 2 ^ 63) where
 
 -- a signed result of a call, passed on or stored
 pub read64 : (z : ℤ) → mag z < 2 ^ 63 → to_z w64 (of_z w64 z) ≡ z
-read64 z h = to_z-of_z (record { sfits = h })
+read64 z h = to_z-of_z {w = w64} (record { sfits = h })
 
 pub neg_read : (m : ℕ) → m ≤ 2 ^ 63 → (m ≡ 0 → ⊥) → {z : ℤ} → z ≡ negsuc (m - 1) → to_z w64 (of_z w64 z) ≡ signed true m
 unfolding signed

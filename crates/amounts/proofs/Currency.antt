@@ -10,7 +10,6 @@ use Rattle.text.specs.Order.{equal}
 use Rattle.amount.specs.Decimal.{empty}
 use Rattle.codes.specs.Currency.{listed}
 use Rattle.names.specs.declared.message.Message.{Message}
-use Rattle.names.specs.declared.message.Message.TheVariants as Message
 use Rattle.settlement.specs.Values.{wrong_currency}
 
 module _ {b : Bool} (u c : List ℕ) (e : b ≡ listed c) where

@@ -9,7 +9,6 @@ use Rattle.amount.specs.Amount as Money
 use Rattle.codes.specs.declared.rules.Rule.{Rule}
 use Rattle.names.specs.declared.message.Message.TheVariants as Message
 use Rattle.names.specs.declared.path.Path.{Path}
-use Rattle.names.specs.declared.path.Path.TheVariants as Path
 use Rattle.names.specs.declared.term.Term.TheVariants as Term
 use Rattle.report.specs.Rows.{Place}
 use Rattle.settlement.specs.Document.{Doc, maybe}

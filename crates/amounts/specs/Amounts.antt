@@ -16,7 +16,6 @@ use Rattle.amounts.specs.declared.amounts.Required.{Required}
 use Rattle.amounts.specs.declared.currencies.Fault.{Fault}
 use Rattle.amounts.specs.declared.currencies.Fault.TheVariants.{Right, Wrong}
 use Rattle.amounts.specs.declared.heard.Heard.{Heard}
-use Rattle.amounts.specs.declared.heard.Heard.TheVariants as Heard
 
 -- what is wrong with a currencyID, if anything
 abbrev pub fault_of : Fault → Option Message

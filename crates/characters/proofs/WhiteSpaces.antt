@@ -13,7 +13,7 @@ use Rattle.characters.specs.WhiteSpace.{in_ranges, white_spaces, white_space, bl
 not_space : (c : ℕ) → 0x21 ≤ c → c ≤ 0x84 → white_space c ≡ false
 unfolding white_space white_spaces in_ranges
 not_space c h h' =
-    rw (within_above c 0x9 0x_d (omega arith), within_above c 0x20 0x20 (omega arith), within_below c 0x85 0x85 (omega arith), within_below c 0xA0 0xA0 (omega arith), within_below c 0x1680 0x1680 (omega arith))
+    rw (within_above c 0x9 0xD (omega arith), within_above c 0x20 0x20 (omega arith), within_below c 0x85 0x85 (omega arith), within_below c 0xA0 0xA0 (omega arith), within_below c 0x1680 0x1680 (omega arith))
     (rw (within_below c 0x2000 0x200A (omega arith), within_below c 0x2028 0x2028 (omega arith), within_below c 0x2029 0x2029 (omega arith), within_below c 0x202F 0x202F (omega arith), within_below c 0x205F 0x205F (omega arith), within_below c 0x3000 0x3000 (omega arith)))
 
 pub graph_space : (b : Bool) (c : ℕ) → b ≡ within c 0x21 0x84 → b ≡ true → false ≡ white_space c
@@ -34,13 +34,13 @@ module _ (c : ℕ) where
       go false false e f = outside (within c first last) refl (eqb-false c first e) (eqb-false c last f)
 
   -- the four blanks as three ranges
-  pub blank_ranges : blank c ≡ (within c 0x9 0xA || within c 0x_d 0x_d || within c 0x20 0x20)
+  pub blank_ranges : blank c ≡ (within c 0x9 0xA || within c 0xD 0xD || within c 0x20 0x20)
   unfolding blank
-  blank_ranges = rw (within_ends 0x9 0xA (omega arith) (omega arith), within_ends 0x_d 0x_d (omega arith) (omega arith), within_ends 0x20 0x20 (omega arith) (omega arith), or_self (eqb c 0x_d), or_self (eqb c 0x20))
+  blank_ranges = rw (within_ends 0x9 0xA (omega arith) (omega arith), within_ends 0xD 0xD (omega arith) (omega arith), within_ends 0x20 0x20 (omega arith) (omega arith), or_self (eqb c 0xD), or_self (eqb c 0x20))
 
 -- nothing from 21 on is blank
 not_blank : (c : ℕ) → 0x21 ≤ c → blank c ≡ false
-not_blank c h = rw (blank_ranges c, within_above c 0x9 0xA (omega arith), within_above c 0x_d 0x_d (omega arith), within_above c 0x20 0x20 (omega arith))
+not_blank c h = rw (blank_ranges c, within_above c 0x9 0xA (omega arith), within_above c 0xD 0xD (omega arith), within_above c 0x20 0x20 (omega arith))
 
 module _ (mode c : ℕ) where
   -- mode 0 asks for White_Space, any other for what is blank

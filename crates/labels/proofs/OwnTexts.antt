@@ -7,7 +7,6 @@ use Prim.Native.Nat.{ℕ}
 use Rattle.text.specs.Utf8.{bytes}
 use Rattle.names.specs.declared.path.Path.{Path}
 use Rattle.names.specs.declared.term.Term.{Term}
-use Rattle.names.specs.declared.term.Term.TheVariants as Term
 use Rattle.names.specs.declared.parent.Parent.{Parent}
 use Rattle.names.specs.Numbered.{nth}
 use Rattle.names.specs.Path.{path_number, paths}

@@ -2,7 +2,6 @@
 use Rattle.std.specs.Prelude.{List, ℕ}
 use Prim.Native.String.{String}
 use Rattle.names.specs.declared.parent.Parent.{Parent}
-use Rattle.names.specs.declared.parent.Parent.TheVariants as Parent
 use Rattle.names.specs.Parent.{parents}
 use Rattle.labels.specs.Text.{text_at}
 

@@ -2,7 +2,6 @@
 use Rattle.std.specs.Prelude.{List, ℕ}
 use Prim.Native.String.{String}
 use Rattle.names.specs.declared.path.Path.{Path}
-use Rattle.names.specs.declared.path.Path.TheVariants as Path
 use Rattle.names.specs.Path.{paths}
 use Rattle.labels.specs.Text.{text_at}
 

@@ -2,7 +2,6 @@
 use Rattle.std.specs.Prelude.{List, ℕ}
 use Prim.Native.String.{String}
 use Rattle.names.specs.declared.term.Term.{Term}
-use Rattle.names.specs.declared.term.Term.TheVariants as Term
 use Rattle.names.specs.Term.{terms}
 use Rattle.labels.specs.Text.{text_at}
 

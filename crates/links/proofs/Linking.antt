@@ -12,7 +12,7 @@ use lib.ListN.{length, set, replicate, length-set, length-replicate, get_or-repl
 use lib.Seq.{get_or-set_same, get_or-set_other}
 use Rattle.text.proofs.Bools.{both}
 use Rattle.table.specs.Table.{records, cell, kin, below, kids, attrs}
-use Rattle.table.proofs.Kin.{Kin, kin_parts, kin_is, not_kin, from, below_from}
+use Rattle.table.proofs.Kin.{kin_parts, kin_is, not_kin, from, below_from}
 use Rattle.links.specs.Links.{link, chain, linked, in_front, joins, link_one, link_below, roomy, link_all, Blank}
 
 -- a record that joins

@@ -3,13 +3,9 @@ use mathlib.Core.Path.{◌≡◌, refl, sym, ◌∙◌, ap}
 use mathlib.Core.Option.{Option, none, some}
 use Prim.Native.Nat.{ℕ}
 use Rattle.names.specs.declared.message.Message.{Message}
-use Rattle.names.specs.declared.message.Message.TheVariants as Message
 use Rattle.names.specs.declared.path.Path.{Path}
-use Rattle.names.specs.declared.path.Path.TheVariants as Path
 use Rattle.names.specs.declared.term.Term.{Term}
-use Rattle.names.specs.declared.term.Term.TheVariants as Term
 use Rattle.names.specs.declared.parent.Parent.{Parent}
-use Rattle.names.specs.declared.parent.Parent.TheVariants as Parent
 use Rattle.names.specs.Numbered.{nth}
 use Rattle.names.specs.Message.{message_number, messages}
 use Rattle.names.specs.Path.{path_number, paths}

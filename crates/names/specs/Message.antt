@@ -1,7 +1,6 @@
 -- The messages of entries (document 01, "Rows": Messages).
 use Rattle.std.specs.Prelude.{List, [], ◌∷◌, ℕ}
 use Rattle.names.specs.declared.message.Message.{Message}
-use Rattle.names.specs.declared.message.Message.TheVariants as Message
 
 -- the message's number
 abbrev pub message_number : Message → ℕ

@@ -1,7 +1,6 @@
 -- The parents of unmapped elements: element names of CII D16B (document 01, "Rows": Unmapped).
 use Rattle.std.specs.Prelude.{List, [], ◌∷◌, ℕ}
 use Rattle.names.specs.declared.parent.Parent.{Parent}
-use Rattle.names.specs.declared.parent.Parent.TheVariants as Parent
 
 -- 1 settlement, 2 monetary summation, 3 payment means
 abbrev pub parent_number : Parent → ℕ

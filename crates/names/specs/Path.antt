@@ -1,7 +1,6 @@
 -- The paths of entries: element names of CII D16B, the last ones or all from record 0 down (document 01, "Rows": Entry).
 use Rattle.std.specs.Prelude.{List, [], ◌∷◌, ℕ}
 use Rattle.names.specs.declared.path.Path.{Path}
-use Rattle.names.specs.declared.path.Path.TheVariants as Path
 
 -- the number in docs/PATHS.md
 abbrev pub path_number : Path → ℕ

@@ -1,7 +1,6 @@
 -- The business terms of entries and their groups (EN 16931-1, 6.3; document 01, "Rows": Entry).
 use Rattle.std.specs.Prelude.{List, [], ◌∷◌, ℕ}
 use Rattle.names.specs.declared.term.Term.{Term}
-use Rattle.names.specs.declared.term.Term.TheVariants as Term
 
 -- the number in docs/TERMS.md, 0 for none
 abbrev pub term_number : Term → ℕ

@@ -1,6 +1,6 @@
 -- A table is refused by none of 3 to 9 just where it is what `Accepted` says, and a refusal names the first record that offends.
 use mathlib.Core.Path.{◌≡◌, refl, sym}
-use mathlib.Core.Bool.{Bool, true, false, cond, ◌&&◌, ◌||◌, not}
+use mathlib.Core.Bool.{Bool, true, false, cond, ◌||◌, not}
 use mathlib.Core.List.{List}
 use mathlib.Core.Option.{Option, none, some}
 use Prim.Native.Nat.{ℕ, zero, suc, ◌+◌, ◌-◌, ◌%◌, ◌≤◌, ◌<◌}

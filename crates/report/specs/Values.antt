@@ -3,15 +3,10 @@ use Rattle.std.proofs.Math.Option.{Option, none, some}
 use Rattle.std.specs.Prelude.{ℕ, ◌+◌, ℤ}
 use Rattle.report.specs.declared.value.Place as Code
 use Rattle.report.specs.declared.value.Text.{Text}
-use Rattle.report.specs.declared.value.Text.TheVariants as Text
 use Rattle.report.specs.declared.value.Amount.{Amount}
-use Rattle.report.specs.declared.value.Amount.TheVariants as Amount
 use Rattle.report.specs.declared.value.Percent.{Percent}
-use Rattle.report.specs.declared.value.Percent.TheVariants as Percent
 use Rattle.report.specs.declared.value.Day.{Day}
-use Rattle.report.specs.declared.value.Day.TheVariants as Day
 use Rattle.report.specs.declared.value.Index.{Index}
-use Rattle.report.specs.declared.value.Index.TheVariants as Index
 use Rattle.report.specs.declared.entry.Entry as CodeEntry
 use Rattle.report.specs.declared.held.Transfer as CodeTransfer
 use Rattle.report.specs.declared.held.Vat as CodeVat

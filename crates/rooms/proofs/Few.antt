@@ -16,7 +16,7 @@ use Rattle.grammar.specs.Tree as Tree
 use Rattle.grammar.specs.Tree.{Piece}
 use Rattle.grammar.specs.Tokens.{Reference, decimal, hexadecimal, lt, gt, ampersand, apos, quot, flat, Value, no_value, and_plain, and_referred, Attributes, no_attributes, and_attribute}
 use Rattle.grammar.specs.Grammar.{Sort, Spells, element, empty_element, nothing, and_char, and_reference, and_section, and_comment, and_element, Subset, document}
-use Rattle.grammar.specs.Layout.{Attr, Forest, kept, shown, count, attr_room, room}
+use Rattle.grammar.specs.Layout.{Attr, kept, shown, count, attr_room, room}
 use Rattle.rooms.proofs.Joins.{shown_then, count_then, room_then}
 use Rattle.rooms.proofs.Weights.{weight, encode_length, weight_none, weight_cons, weight_append, weight_length, logical_weight}
 

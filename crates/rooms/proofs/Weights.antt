@@ -59,13 +59,13 @@ lines_weight : (after : Bool) (x : List ℕ) → weight (lines after x) ≤ weig
 unfolding lines
 lines_weight true [] = omega arith
 lines_weight false [] = omega arith
-lines_weight true (c ∷ x) = go (eqb c 0xA) (eqb c 0x_d) (lines_weight true x) (lines_weight false x)
+lines_weight true (c ∷ x) = go (eqb c 0xA) (eqb c 0xD) (lines_weight true x) (lines_weight false x)
   where
     go : (p q : Bool) → weight (lines true x) ≤ weight x → weight (lines false x) ≤ weight x → weight (cond p (lines false x) (cond q (0xA ∷ lines true x) (c ∷ lines false x))) ≤ weight (c ∷ x)
     go true q h k = omega (arith, weight_cons c x)
     go false true h k = fed c (lines true x) x h
     go false false h k = omega (arith, weight_cons c x, weight_cons c (lines false x))
-lines_weight false (c ∷ x) = go (eqb c 0x_d) (lines_weight true x) (lines_weight false x)
+lines_weight false (c ∷ x) = go (eqb c 0xD) (lines_weight true x) (lines_weight false x)
   where
     go : (q : Bool) → weight (lines true x) ≤ weight x → weight (lines false x) ≤ weight x → weight (cond q (0xA ∷ lines true x) (c ∷ lines false x)) ≤ weight (c ∷ x)
     go true h k = fed c (lines true x) x h

@@ -1,5 +1,5 @@
 -- The settlement, its children and their children are no more than the records: no record is counted twice.
-use mathlib.Core.Path.{◌≡◌, refl, ap}
+use mathlib.Core.Path.{◌≡◌, refl, ap, sym, subst}
 use mathlib.Core.Bool.{Bool, true, false, cond, ◌&&◌}
 use mathlib.Core.List.{List, [], ◌∷◌, ◌++◌}
 use Prim.Native.Nat.{ℕ, zero, suc, ◌+◌, ◌-◌, ◌≤◌, ◌<◌}
@@ -120,7 +120,7 @@ module _ (t : List ℕ) where
   once_with_root n p = go (ℕ_discrete p 0)
     where
       go : Dec (p ≡ 0) → times p (0 ∷ below t 1 0 n) ≤ 1
-      go (yes q) = rw q (omega (arith, times_root 0 n, one_most (eqb 0 0)))
+      go (yes q) = subst (λ x. times x (0 ∷ below t 1 0 n) ≤ 1) (sym q) (rw (times_root 0 n) (one_most (eqb 0 0)))
       go (no k) = let o : one (eqb p 0) ≡ 0 = ap one (ne_eqb p 0 k) in omega (arith, times_once 0 n p)
 
   -- a sum of numbers that are one larger
@@ -134,5 +134,6 @@ module _ (t : List ℕ) where
   sizes h =
       let n = records t in
       let e : suc (n - 1) ≡ n = omega arith in
-      let k : total (λ c. length (below t 1 c n)) (0 ∷ below t 1 0 n) ≤ n - 1 = rw e at (all_kids (0 ∷ below t 1 0 n) (once_with_root n) (n - 1)) in
+      let k : total (λ c. length (below t 1 c n)) (0 ∷ below t 1 0 n) ≤ n - 1 =
+          subst (λ m. total (λ c. length (below t 1 c m)) (0 ∷ below t 1 0 n) ≤ n - 1) e (all_kids (0 ∷ below t 1 0 n) (once_with_root n) (n - 1)) in
       omega (arith, k, total_suc (λ c. length (below t 1 c n)) (below t 1 0 n))

@@ -1,5 +1,5 @@
 -- Insertion by a total order: the order in which elements come does not matter.
-use mathlib.Core.Path.{◌≡◌, refl, ap, ◌∙◌}
+use mathlib.Core.Path.{◌≡◌, refl, sym, ap, ◌∙◌}
 use mathlib.Core.List.{List, [], ◌∷◌, foldl-append}
 use Prim.Native.Nat.{Ordering}
 use Rattle.text.specs.Order.{opposite}
@@ -21,7 +21,7 @@ module _ {A : Type 0} (c : A → A → Ordering) (t : Total c) where
   swap_at : (a b w : A) (l : List A) (oa ob oc : Ordering) → c a w ≡ oa → c b w ≡ ob → c a b ≡ oc → insert c a (insert c b l) ≡ insert c b (insert c a l) → insert c a (insert c b (w ∷ l)) ≡ insert c b (insert c a (w ∷ l))
   unfolding insert
   swap_at a b w l Ordering.lt Ordering.lt Ordering.lt ea eb ec h = simp (ea, eb, ec, up ec)
-  swap_at a b w l Ordering.lt Ordering.lt Ordering.eq ea eb ec h = rw (t.same a b ec)
+  swap_at a b w l Ordering.lt Ordering.lt Ordering.eq ea eb ec h = let e : a ≡ b = t.same a b ec in ap (λ x. insert c x (insert c b (w ∷ l))) e ∙ sym (ap (λ x. insert c b (insert c x (w ∷ l))) e)
   swap_at a b w l Ordering.lt Ordering.lt Ordering.gt ea eb ec h = simp (ea, eb, ec, down ec)
   swap_at a b w l Ordering.eq Ordering.lt oc ea eb ec h = let e : c a b ≡ Ordering.gt = rw (t.same a w ea) (up eb) in simp (ea, eb, e)
   swap_at a b w l Ordering.gt Ordering.lt oc ea eb ec h = let e : c a b ≡ Ordering.gt = up (t.trans b w a eb (down ea)) in simp (ea, eb, e)

@@ -1,6 +1,5 @@
 -- UTF-8's encoder, from RFC 3629, and with it the bytes of quoted texts. Crate `characters` has the characters of bytes.
 use Rattle.std.specs.Prelude.{cond, List, [], ◌∷◌, ◌++◌, ℕ, ◌+◌, ◌/◌, ◌%◌, leb}
-use Prim.Native.String as String
 use Prim.Native.String.{String}
 use Prim.Native.Char.{code}
 

@@ -146,4 +146,4 @@ pub noted_all :
     Listed x lent (insert_all (element_order x) us vs) now' n'
 unfolding notings insert_all
 noted_all [] l room w = record { rows = w.list ∙ l.rows; count = w.count ∙ l.count; sorted = l.sorted; room = l.room }
-noted_all {x} {lent} {now} {now'} {us} (v ∷ vs) l room w = noted_all vs (noted v l (omega arith)) (omega (arith, insert_length (element_order x) v us)) w
+noted_all {x = x} {lent = lent} {now = now} {now' = now'} {us = us} {n = n} {n' = n'} (v ∷ vs) l room w = noted_all {now = (noting x now n v).list} vs (noted v l (omega arith)) (omega (arith, insert_length (element_order x) v us)) w

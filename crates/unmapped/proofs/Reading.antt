@@ -47,7 +47,7 @@ module _ {z : ℤ} (f : SFits w64 z) where
 
 -- a number that is read and passed on
 pub read_back : (z : ℤ) {r : ℕ} → mag z < 2 ^ 63 → r ≡ or_zero (to_z w64 (of_z w64 z)) → r ≡ or_zero z
-read_back z f e = let q : to_z w64 (of_z w64 z) ≡ z = to_z-of_z (record { sfits = f }) in e ∙ rw q
+read_back z f e = let q : to_z w64 (of_z w64 z) ≡ z = to_z-of_z {w = w64} (record { sfits = f }) in e ∙ rw q
 
 -- past the end of the list
 pub past_end : (l : List ℤ) (n : ℕ) → length l ≤ n → 0 ≡ or_zero (get_or l n (pos 0))

@@ -1,5 +1,5 @@
 -- What the code's values mean, and what a percentage or a date says whose trimmed text stands at a place: `percent_spelled` and `date_spelled` (proofs/Spelled.antt) join that to `percent_of` and `date_from`.
-use Rattle.std.specs.Prelude.{Bool, true, false, cond, List, [], ◌∷◌, ℕ, ℤ}
+use Rattle.std.specs.Prelude.{Bool, true, cond, List, [], ◌∷◌, ℕ, ℤ}
 use Rattle.std.proofs.Math.Option.{Option, none, some}
 use Rattle.text.specs.Answer.{Answer}
 use Rattle.text.specs.Utf8.{bytes}
@@ -9,7 +9,6 @@ use Rattle.codes.specs.DateFormat.{date_format}
 use Rattle.codes.specs.Vat.{vat}
 use Rattle.codes.specs.declared.rules.Rule.{Rule}
 use Rattle.names.specs.declared.message.Message.{Message}
-use Rattle.names.specs.declared.message.Message.TheVariants as Message
 use Rattle.names.specs.declared.path.Path.{Path}
 use Rattle.names.specs.declared.term.Term.TheVariants as Term
 use Rattle.report.specs.Rows.{Place, Entry}

@@ -1,4 +1,2 @@
 pub mod Places
 pub mod Rows
-pub mod Taken
-pub mod Made

@@ -1,0 +1,14 @@
+use mathlib.Core.Path.{refl}
+use Rattle.values.specs.Sites.{lent_of}
+use Rattle.children.proofs.Acting.{preceding_acted}
+use Rattle.steps.proofs.Stepping.{lanes}
+use Rattle.steps.specs.Steps.{act_by, step_by}
+use Rattle.settlement.specs.Kinds.{same_kind, home}
+use Rattle.settlement.specs.Settlement.{own}
+use Rattle.children.proofs.rows.preceding_invoice.Goals as goal
+
+pub unreachable : goal.unreachable
+unfolding step_by act_by own home same_kind
+unreachable c =
+    let acted = preceding_acted (lent_of c.args.lent currency) _ _ _ _ u _ c.preceding.ensures c.put-preceding.ensures in
+    record { state = lanes refl refl refl refl refl refl refl refl refl refl refl refl acted.same refl refl; held = acted.held; said = acted.said; noted = acted.noted }

@@ -1,0 +1,8 @@
+use Rattle.std.proofs.Common.{rules}
+use Rattle.std.proofs.Common.{tests}
+use Rattle.report.specs.Encoding.{held_row}
+use Rattle.report.proofs.held.put_vat.Goals as goal
+
+pub returns : goal.returns
+unfolding held_row
+returns c = search (tests, rules)
