@@ -40,7 +40,27 @@ fn vat_breakdown(
     requires { s.tally.vat.breakdowns ≤ 4095 }
     ensures { (p : Plain) (b : Billing) (m : MaybeTotals) (u : List ℤ) → Stepped trade_tax (lent_of lent currency.now) (link_doc table.now text.now links.now) text.now c (state p s.tally b m s.cursor) (state p result.tally b m result.cursor) held.old held.new entries.old entries.new u u }
 {
-    absent::gone()
+    let tally = s.tally;
+    let cursor = s.cursor;
+    let vat = tally.vat;
+    let at = cursor.entries;
+    let said = groups::vat_breakdown(table, text, links, lent, currency, entries, at, vat, c);
+    let row = said.vat;
+    let after = said.state;
+    Tallied {
+        tally: Tally {
+            vat: VatState {
+                breakdowns: vat.breakdowns + 1,
+                ..after
+            },
+            ..tally
+        },
+        cursor: Cursor {
+            held: report::put_vat(held, cursor.held, row),
+            entries: said.at,
+            ..cursor
+        },
+    }
 }
 
 // BG-20 or BG-21: the allowance or charge that element c is.
@@ -58,7 +78,31 @@ fn allowance_charge(
     requires { (s.tally.allowances ≤ 4095) × (s.tally.charges ≤ 4095) }
     ensures { (p : Plain) (b : Billing) (m : MaybeTotals) (u : List ℤ) → Stepped allowance_charge (lent_of lent currency.now) (link_doc table.now text.now links.now) text.now c (state p s.tally b m s.cursor) (state p result.tally b m result.cursor) held.old held.new entries.old entries.new u u }
 {
-    absent::gone()
+    let tally = s.tally;
+    let cursor = s.cursor;
+    let a = tally.allowances;
+    let b = tally.charges;
+    let at = cursor.entries;
+    let said = charges::allowance_charge(table, text, links, lent, currency, entries, at, a, b, c);
+    let charge = said.charge;
+    let row = said.row;
+    let cursor = Cursor {
+        held: charges::put_allowance_or_charge(held, cursor.held, charge, row),
+        entries: said.at,
+        ..cursor
+    };
+    if charge {
+        let tally = Tally {
+            charges: b + 1,
+            ..tally
+        };
+        return Tallied { tally, cursor };
+    }
+    let tally = Tally {
+        allowances: a + 1,
+        ..tally
+    };
+    Tallied { tally, cursor }
 }
 
 // BG-21: the charge that a logistics charge is under a conformant extension.
@@ -76,7 +120,33 @@ fn logistics_charge(
     requires { s.tally.charges ≤ 4095 }
     ensures { (p : Plain) (b : Billing) (m : MaybeTotals) (u : List ℤ) → Stepped logistics_charge (lent_of lent currency.now) (link_doc table.now text.now links.now) text.now c (state p s.tally b m s.cursor) (state p result.tally b m result.cursor) held.old held.new entries.old entries.new u u }
 {
-    absent::gone()
+    let tally = s.tally;
+    let cursor = s.cursor;
+    let b = tally.charges;
+    let at = cursor.entries;
+    let said = charges::logistics_charge(table, text, links, lent, currency, entries, at, b, c);
+    let charge = said.charge;
+    let at = said.at;
+    match charge {
+        MaybeCharge::Absent => Tallied {
+            tally,
+            cursor: Cursor {
+                entries: at,
+                ..cursor
+            },
+        },
+        MaybeCharge::Of(row) => Tallied {
+            tally: Tally {
+                charges: b + 1,
+                ..tally
+            },
+            cursor: Cursor {
+                held: report::put_charge(held, cursor.held, row),
+                entries: at,
+                ..cursor
+            },
+        },
+    }
 }
 
 // BG-3: the preceding invoice that element c is.
@@ -93,7 +163,22 @@ fn preceding_invoice(
     requires { s.tally.invoices ≤ 4095 }
     ensures { (currency : List ℕ) (p : Plain) (b : Billing) (m : MaybeTotals) (u : List ℤ) → Stepped preceding_invoice (lent_of lent currency) (link_doc table.now text.now links.now) text.now c (state p s.tally b m s.cursor) (state p result.tally b m result.cursor) held.old held.new entries.old entries.new u u }
 {
-    absent::gone()
+    let tally = s.tally;
+    let cursor = s.cursor;
+    let index = tally.invoices;
+    let said = groups::preceding(table, text, links, lent, entries, cursor.entries, index, c);
+    let row = said.invoice;
+    Tallied {
+        tally: Tally {
+            invoices: index + 1,
+            ..tally
+        },
+        cursor: Cursor {
+            held: report::put_preceding(held, cursor.held, row),
+            entries: said.at,
+            ..cursor
+        },
+    }
 }
 
 // The rows that element c makes, by its kind.
@@ -112,5 +197,16 @@ pub(crate) fn row_child(
     requires { Counted s.tally 4095 }
     ensures { (p : Plain) (b : Billing) (m : MaybeTotals) (u : List ℤ) → Stepped (row_is kind) (lent_of lent currency.now) (link_doc table.now text.now links.now) text.now c (state p s.tally b m s.cursor) (state p result.tally b m result.cursor) held.old held.new entries.old entries.new u u }
 {
-    absent::gone()
+    match kind {
+        RowKind::TradeTax => vat_breakdown(table, text, links, lent, currency, held, entries, s, c),
+        RowKind::AllowanceCharge => allowance_charge(
+            table, text, links, lent, currency, held, entries, s, c,
+        ),
+        RowKind::LogisticsCharge => logistics_charge(
+            table, text, links, lent, currency, held, entries, s, c,
+        ),
+        RowKind::PrecedingInvoice => preceding_invoice(
+            table, text, links, lent, held, entries, s, c,
+        ),
+    }
 }

@@ -31,7 +31,14 @@ fn unmapped_child(
 ) -> Cursor
     ensures { (L : reading.Lent) (p : Plain) (t : Tally) (b : Billing) (m : MaybeTotals) (h e : List ℤ) → Stepped other L (link_doc table.now text.now links.now) text.now c (state p t b m cursor) (state p t b m result) h h e e unmapped.old unmapped.new }
 {
-    absent::gone()
+    let element = Unmapped {
+        parent: Parent::Settlement,
+        name: element::name(table, c),
+    };
+    Cursor {
+        unmapped: unmapped::note_unmapped(text, unmapped, cursor.unmapped, element),
+        ..cursor
+    }
 }
 
 // All children of element n, from a state on, each by its kind.
@@ -50,7 +57,63 @@ fn read_children(
     requires { (length links.now ≤ 12288) × Counted start.tally 0 }
     ensures { Walked (lent_of lent currency.now) (link_doc table.now text.now links.now) text.now ((link_doc table.now text.now links.now).kids n) start result held.old held.new entries.old entries.new unmapped.old unmapped.new }
 {
-    absent::gone()
+    let mut plain = start.plain;
+    let mut tally = start.tally;
+    let mut billing = start.billing;
+    let mut totals = start.totals;
+    let mut cursor = start.cursor;
+    let mut c = links::first_of(links, n);
+    let mut left = links.len() / 3;
+    while 0 < left {
+        if c == 0 {
+            return State {
+                plain,
+                tally,
+                billing,
+                totals,
+                cursor,
+            };
+        }
+        let kind = kind_of(table, text, links, c);
+        match kind {
+            Kind::Plain(k) => {
+                plain = steps::plain_child(table, text, links, plain, k, c);
+            }
+            Kind::Row(k) => {
+                let s = Tallied { tally, cursor };
+                let said = row_child(table, text, links, lent, currency, held, entries, s, k, c);
+                tally = said.tally;
+                cursor = said.cursor;
+            }
+            Kind::Billing(k) => {
+                let s = Billed { billing, cursor };
+                let said = steps::billing_child(
+                    table, text, links, lent, held, entries, unmapped, s, k, c,
+                );
+                billing = said.billing;
+                cursor = said.cursor;
+            }
+            Kind::Summation => {
+                let said = steps::summation(
+                    table, text, links, lent, currency, entries, unmapped, plain, cursor, c,
+                );
+                totals = said.totals;
+                cursor = said.cursor;
+            }
+            Kind::Other => {
+                cursor = unmapped_child(table, text, links, unmapped, cursor, c);
+            }
+        }
+        c = links::next_of(links, c);
+        left -= 1;
+    }
+    State {
+        plain,
+        tally,
+        billing,
+        totals,
+        cursor,
+    }
 }
 
 // The settlement that record 0 is: all its children, from nothing on. No child is read where there are more
@@ -67,5 +130,11 @@ pub fn settlement(
 ) -> State
     ensures { Read (lent_of lent currency.now) (link_doc table.now text.now links.now) text.now (countable links.now ((link_doc table.now text.now links.now).kids 0)) result held.old held.new entries.old entries.new unmapped.old unmapped.new }
 {
-    absent::gone()
+    let start = steps::blank();
+    if links.len() <= 12288 {
+        return read_children(
+            table, text, links, lent, currency, held, entries, unmapped, start, 0,
+        );
+    }
+    start
 }
