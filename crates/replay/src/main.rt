@@ -134,8 +134,15 @@ fn print_cases(
     Ok(())
 }
 
+// Zeros for the input. The `ensures` gives only the length: so many zeros are more than a proof can hold.
+fn input_buffer() -> [u8; 524288]
+    ensures { 524288 ≡ length result }
+{
+    [0; 524288]
+}
+
 fn main(rt: HostRuntime) -> io::Result<()> {
-    let mut input = [0u8; 524288];
+    let mut input = input_buffer();
     let mut table = [0u32; 1536];
     let mut text = [0u8; 65536];
     let n = cases::read_full(&mut rt.stdin(), &mut input)?;
