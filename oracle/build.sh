@@ -2,7 +2,7 @@
 # Builds the published Rust reader, the comparison and the benchmark, and prints the folder of the programs.
 #
 #   EN16931_SRC    the published source: a checkout of hupe1980/en16931, revision f9d342604d (required)
-#   RULZHAMM_LIB   the folder of librulzhamm.a (target/staticlib)
+#   RULZHAMM_LIB   the folder of librulzhamm.a (target/staticlib, where tools/staticlib puts it)
 #   OUT            the build folder (target/oracle)
 #
 # The crates that the Rust needs come from Debian (run `apt-get update` once before), the currencies

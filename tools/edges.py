@@ -7,7 +7,7 @@
 The answers come from a model of its own, written from document 01, the change requests and the public
 standards that they name: UTF-8 (RFC 3629), White_Space (Unicode), white space, xs:decimal and xs:boolean
 (XML Schema part 2), the Gregorian calendar (ISO 8601) and ISO 4217. The program `edges` runs the proved
-functions on the same cases, and `rt check` compares what it prints with these answers.
+functions on the same cases, and `rt ci` compares what it prints with these answers.
 
 A case is a line `LEAF NUMBER TEXT`. In TEXT printable ASCII stands for itself, `\\HH` for one byte,
 and one `\\*` for a hole, in which the case is run with each byte value.

@@ -1,15 +1,18 @@
 // The parts of a test case as it stands in a line of text: numbers, and texts with escapes and a
-// hole. In a text printable ASCII stands for itself, \HH for one byte, and \* for the hole.
+// hole. In a text printable ASCII stands for itself, \HH for one byte, and \* for the hole. And the
+// input that has the lines.
 //
 // Every function takes all bytes. No public function has a `requires`, and the crate assumes nothing
 // of its own.
 #![tactic(auto)]
 
+mod input;
 mod listing;
 
 ghost use Rattle.std.specs.Prelude.{◌≡◌, ◌+◌, ◌<◌, min, length, get_or, drop, set};
 ghost use Rattle.cases.specs.Symbols.{nibble, escaped, symbol, size, weight, byte_of, holes_of, Filled};
 
+pub use input::{find, read_full};
 pub use listing::numbers;
 use text::is_within;
 

@@ -2,14 +2,13 @@
 use mathlib.Core.Path.{◌≡◌, refl, sym, ◌∙◌, ap}
 use mathlib.Core.Bool.{true, false}
 use mathlib.Core.List.{List, [], ◌∷◌}
-use Prim.Native.Nat.{ℕ, suc, ◌+◌, ◌<◌, ◌^◌}
+use Prim.Native.Nat.{ℕ, ◌<◌, ◌^◌}
 use native.Mathlib.Omega.{arith}
-use borrow.Author.Tests.{ltb-true, le-ltb}
-use lib.Dec.{T}
-use lib.Signed.{lt_z, non_neg}
-use lib.IntN.{ℤ, pos, negsuc, nat_abs, ◌-ℤ◌}
+use borrow.Author.Tests.{ltb-true}
+use lib.Signed.{lt_z}
+use lib.IntN.{ℤ, pos, negsuc, nat_abs}
 use mir.Syntax.{w64}
-use mir.Val.{SFits, Fits, to_z, of_z}
+use mir.Val.{SFits, to_z, of_z}
 use mir.Facts.{to_z-of_z}
 use Rattle.text.proofs.Bools.{not_both}
 use Rattle.report.specs.Placed.{Placed}
@@ -21,10 +20,6 @@ use Rattle.decimals.proofs.Putting.{placed_as}
 abbrev pub held : ℤ → ℤ
 held z = to_z w64 (of_z w64 z)
 
--- -1 less a number below zero, -(k + 1), is k
-minus : (k : ℕ) → negsuc 0 -ℤ negsuc k ≡ pos k
-minus k = rw (le-ltb (suc k) 1 (omega arith)) (ap pos (omega arith))
-
 module _ {z : ℤ} (f : SFits w64 z) where
   module _ (e : lt_z (held z) (pos 0) ≡ true) where
     pub below : (k : ℕ) × (z ≡ negsuc k) × (k < 2 ^ 63)
@@ -33,27 +28,6 @@ module _ {z : ℤ} (f : SFits w64 z) where
         go : (y : ℤ) → SFits w64 y → lt_z y (pos 0) ≡ true → (k : ℕ) × (y ≡ negsuc k) × (k < 2 ^ 63)
         go (pos n) g t = absurd (omega (arith, ltb-true n 0 t))
         go (negsuc k) g t = (k, refl, g.sfits)
-
-    less : negsuc 0 -ℤ held z ≡ pos below.0
-    less = ap (λ (y : ℤ). negsuc 0 -ℤ y) (to_z-of_z f ∙ below.1) ∙ minus below.0
-
-    pub less_fits : SFits w64 (negsuc 0 -ℤ held z)
-    less_fits = rw less (record { sfits = below.2 })
-
-    less_read : held (negsuc 0 -ℤ held z) ≡ pos below.0
-    less_read = to_z-of_z less_fits ∙ less
-
-    pub less_cast : T (non_neg (held (negsuc 0 -ℤ held z))) × Fits w64 (nat_abs (held (negsuc 0 -ℤ held z)))
-    less_cast = rw less_read (tt, record { fits = omega (arith, below.2) })
-
-    pub more_fits : Fits w64 (nat_abs (held (negsuc 0 -ℤ held z)) + 1)
-    more_fits = rw less_read (record { fits = omega (arith, below.2) })
-
-    pub size_below : nat_abs (held (negsuc 0 -ℤ held z)) + 1 ≡ nat_abs z
-    size_below =
-        let p : nat_abs (held (negsuc 0 -ℤ held z)) ≡ below.0 = ap nat_abs less_read in
-        let q : nat_abs z ≡ suc below.0 = ap nat_abs below.1 in
-        omega arith
 
     signed_below : 0x2D ∷ decimal (nat_abs z) ≡ signed z
     unfolding signed
@@ -74,9 +48,6 @@ module _ {z : ℤ} (f : SFits w64 z) where
         go : (y : ℤ) → SFits w64 y → lt_z y (pos 0) ≡ false → (n : ℕ) × (y ≡ pos n) × (n < 2 ^ 63)
         go (pos n) g t = (n, refl, g.sfits)
         go (negsuc k) g t = absurd (not_both refl t)
-
-    pub above_cast : T (non_neg (held z)) × Fits w64 (nat_abs (held z))
-    above_cast = rw (to_z-of_z f, above.1) (tt, record { fits = omega (arith, above.2) })
 
     pub natural_above : nat_abs (held z) ≡ natural z
     unfolding natural

@@ -1,14 +1,14 @@
 -- Laws of numbers in decimal digits.
-use mathlib.Core.Path.{◌≡◌, refl, ◌∙◌}
+use mathlib.Core.Path.{◌≡◌, refl, sym, ap, ◌∙◌}
 use mathlib.Core.Bool.{Bool, true, false}
-use mathlib.Core.List.{[], ◌∷◌, ◌++◌}
+use mathlib.Core.List.{List, [], ◌∷◌, ◌++◌, append_assoc}
 use Prim.Native.Nat.{ℕ, zero, suc, ◌+◌, ◌-◌, ◌*◌, ◌/◌, ◌%◌, ◌^◌, ◌≤◌, ◌<◌}
 use native.Mathlib.Omega.{arith}
-use native.Mathlib.Nat.{pow-succ', one-le-pow}
+use native.Mathlib.Nat.{pow-succ'}
 use borrow.Author.Tests.{lt-ltb, le-ltb, ltb-true, ltb-false}
 use lib.Dec.{ltb}
-use lib.ListN.{length, get_or, length-append, get_or-append}
-use Rattle.io.specs.Digits.{last_digits, IsDigitCount}
+use lib.ListN.{length, get_or, drop, set, length-append, get_or-append}
+use Rattle.std.proofs.lemmas.List.{drop-set}
 use Rattle.text.specs.Digits.{digit, all_digits, number}
 use Rattle.text.proofs.Digits.{number_append, all_append}
 use Rattle.text.proofs.Ranges.{within_yes}
@@ -24,27 +24,46 @@ module _ (f n : ℕ) where
   unfolding spelled
   spelled_more h = rw (le-ltb n 10 h)
 
--- the fewest digits that hold a number spell it
-digits_spelled : (k f n : ℕ) → n < f → n < 10 ^ suc k → (0 < k → 10 ^ k ≤ n) → last_digits 10 (suc k) n ≡ spelled f n
-digits_spelled k zero n b u l = absurd (omega arith)
-digits_spelled zero (suc f) n b u l =
-    let h : n < 10 = omega arith in
-    let e : n % 10 ≡ n = omega arith in
-    rw (spelled_one f n h, e, lt-ltb n 10 h)
-digits_spelled (suc k) (suc f) n b u l =
-    let p = pow-succ' 10 k in
-    let q = pow-succ' 10 (suc k) in
-    let o = one-le-pow k 10 (omega arith) in
-    let m = l (omega arith) in
-    let r = digits_spelled k f (n / 10) (omega arith) (omega arith) (λ z. omega arith) in
-    rw (spelled_more f n (omega arith), ← r, lt-ltb (n % 10) 10 (omega arith))
+-- more digits than there are may be asked for
+spelled_enough : (f g n : ℕ) → n < f → n < g → spelled f n ≡ spelled g n
+spelled_enough zero g n h k = absurd (omega arith)
+spelled_enough (suc f) zero n h k = absurd (omega arith)
+spelled_enough (suc f) (suc g) n h k = go (ltb n 10) refl (spelled_enough f g (n / 10))
+  where
+    go : (b : Bool) → ltb n 10 ≡ b → (n / 10 < f → n / 10 < g → spelled f (n / 10) ≡ spelled g (n / 10)) → spelled (suc f) n ≡ spelled (suc g) n
+    go true e r = let m = ltb-true n 10 e in spelled_one f n m ∙ sym (spelled_one g n m)
+    go false e r =
+        let m = ltb-false n 10 e in
+        spelled_more f n m ∙ ap (λ (s : List ℕ). s ++ ((0x30 + n % 10) ∷ [])) (r (omega arith) (omega arith)) ∙ sym (spelled_more g n m)
 
-pub decimal_digits : (n k : ℕ) → IsDigitCount 10 1 n k → last_digits 10 k n ≡ decimal n
+-- all digits: one, and more
+decimal_one : (n : ℕ) → n < 10 → decimal n ≡ (0x30 + n) ∷ []
 unfolding decimal
-decimal_digits n zero h = absurd (omega arith)
-decimal_digits n (suc k) h =
-    let e : suc k - 1 ≡ k = omega arith in
-    digits_spelled k (suc n) n (omega arith) h.1 (λ z. rw e at (h.2 (omega arith)))
+decimal_one n h = spelled_one n n h
+
+decimal_more : (n : ℕ) → 10 ≤ n → decimal n ≡ decimal (n / 10) ++ ((0x30 + n % 10) ∷ [])
+unfolding decimal
+decimal_more n h =
+    spelled_more n n h ∙ ap (λ (s : List ℕ). s ++ ((0x30 + n % 10) ∷ [])) (spelled_enough n (suc (n / 10)) (n / 10) (omega arith) (omega arith))
+
+-- a number of more than one digit has room for one less in front
+pub room_left : (n at : ℕ) → 10 ≤ n → n < 10 ^ (at + 1) → (at - 1 + 1 ≡ at) × (n / 10 < 10 ^ at)
+room_left n zero m h = absurd (omega arith)
+room_left n (suc k) m h =
+    let p = pow-succ' 10 (suc k) in
+    let q : suc k + 1 ≡ suc (suc k) = omega arith in
+    let l = rw q at h in
+    (omega arith, omega (arith, p, l))
+
+-- digits that are stored from the last on, each in front of those that are there: one more, and the first
+module _ (n rest at : ℕ) (s : List ℕ) (h : at < length s) (p : decimal n ≡ decimal rest ++ drop (at + 1) s) where
+  pub digit_stored : 10 ≤ rest → decimal n ≡ decimal (rest / 10) ++ drop at (set s at (0x30 + rest % 10))
+  digit_stored m =
+      p ∙ ap (λ (t : List ℕ). t ++ drop (at + 1) s) (decimal_more rest m) ∙ append_assoc (decimal (rest / 10)) ((0x30 + rest % 10) ∷ []) (drop (at + 1) s) ∙
+      ap (λ (t : List ℕ). decimal (rest / 10) ++ t) (sym (drop-set s at (0x30 + rest % 10) h))
+
+  pub first_stored : rest < 10 → drop at (set s at (0x30 + rest)) ≡ decimal n
+  first_stored m = drop-set s at (0x30 + rest) h ∙ sym (p ∙ ap (λ (t : List ℕ). t ++ drop (at + 1) s) (decimal_one rest m))
 
 -- one digit more
 number_one : (n d : ℕ) → number n ((0x30 + d) ∷ []) ≡ 10 * n + d

@@ -1,18 +1,34 @@
 // Numbers in decimal digits.
-ghost use Rattle.std.specs.Prelude.{◌≡◌, nat_abs};
+ghost use Rattle.std.specs.Prelude.{◌≡◌, ◌<◌, nat_abs, drop};
 ghost use Rattle.report.specs.Placed.{Placed};
 ghost use Rattle.decimals.specs.Decimal as decimal;
 ghost use Rattle.decimals.specs.Decimal.{signed};
 
 use crate::list::{put_byte, put_bytes};
 
+// Puts a number's digits at the end of a list, and answers where they begin.
+fn digits_of(n: u64, digits: &mut [u8; 20]) -> usize
+    ensures begins { result < 20 }
+    ensures digits { drop result digits.new ≡ decimal.decimal n }
+{
+    let mut at = 19;
+    let mut rest = n;
+    while 9 < rest {
+        digits[at] = b'0' + (rest % 10) as u8;
+        rest /= 10;
+        at -= 1;
+    }
+    digits[at] = b'0' + rest as u8;
+    at
+}
+
 // Puts a number's digits, and answers where the next bytes go.
 pub fn put_decimal(out: &mut [u8], at: usize, n: u64) -> usize
     ensures { Placed out.old at (decimal.decimal n) out.new result }
 {
     let mut digits = [0u8; 20];
-    let k = io::decimal(n, &mut digits);
-    put_bytes(out, at, &digits[..k])
+    let from = digits_of(n, &mut digits);
+    put_bytes(out, at, &digits[from..])
 }
 
 // The size of a signed number. That of the least one is no signed number, so it is made in steps.

@@ -16,141 +16,145 @@ mod leaves;
 
 use crate::answers::{Numbers, answer_at, same_numbers};
 use crate::leaves::{Leaf, NamedLeaf, leaf_of};
-use cases::holes;
+use cases::{find, holes};
+use std::io;
 use text::{Numeral, numeral_of};
 
-const STDIN: i32 = 0;
-
-const STDOUT: i32 = 1;
-
-fn print(s: &[u8]) {
-    io::write_all(STDOUT, s);
-}
-
-fn print_signed(z: i64) {
-    if z < 0 {
-        print(b"-");
-    }
-    io::print_decimal(STDOUT, decimals::size(z));
-}
-
 // The numbers of an answer, parted by a separator, and a question mark where there are none.
-fn print_answer(a: Numbers, separator: &[u8]) {
+fn print_answer(rt: &impl Print, a: Numbers, separator: &str) -> io::Result<()> {
     let count = a.count;
     if count == 0 {
-        print(b"?");
-        return;
+        return rt.print("?");
     }
-    print_signed(a.first);
+    rt.print(a.first)?;
     if 1 < count {
-        print(separator);
-        print_signed(a.second);
+        rt.print(separator)?;
+        rt.print(a.second)?;
     }
     if 2 < count {
-        print(separator);
-        print_signed(a.third);
+        rt.print(separator)?;
+        rt.print(a.third)?;
     }
+    Ok(())
 }
 
 // The bytes from first to last, which have the same answer.
-fn print_run(first: u8, last: u8, a: Numbers) {
-    print(b" ");
-    io::print_hex(STDOUT, first as u64, 2);
+fn print_run(rt: &impl Print, first: u8, last: u8, a: Numbers) -> io::Result<()> {
+    print!(rt; " {first:02x}")?;
     if first < last {
-        print(b"-");
-        io::print_hex(STDOUT, last as u64, 2);
+        print!(rt; "-{last:02x}")?;
     }
-    print(b":");
-    print_answer(a, b",");
+    rt.print(":")?;
+    print_answer(rt, a, ",")
 }
 
 // The answers for each byte in the hole, by runs of bytes with the same one.
-fn print_runs(leaf: Leaf, number: u32, s: &[u8], space: &mut [u8]) {
+fn print_runs(
+    rt: &impl Print,
+    leaf: Leaf,
+    number: u32,
+    s: &[u8],
+    space: &mut [u8],
+) -> io::Result<()> {
     let mut first = 0;
     let mut held = answer_at(leaf, number, s, 0, space);
     let mut b = 0;
     while b < 255 {
         let a = answer_at(leaf, number, s, b + 1, space);
         if !same_numbers(held, a) {
-            print_run(first, b, held);
+            print_run(rt, first, b, held)?;
             first = b + 1;
             held = a;
         }
         b += 1;
     }
-    print_run(first, 255, held);
+    print_run(rt, first, 255, held)
 }
 
-fn print_unfit(line: &[u8]) {
-    print(b"unfit: ");
-    print(line);
+fn print_unfit(rt: &impl Print, line: &[u8]) -> io::Result<()> {
+    rt.print("unfit: ")?;
+    rt.write_all(line)
 }
 
 // A case with its answers.
-fn print_case(line: &[u8], leaf: Leaf, number: u32, s: &[u8], space: &mut [u8]) {
+fn print_case(
+    rt: &impl Print,
+    line: &[u8],
+    leaf: Leaf,
+    number: u32,
+    s: &[u8],
+    space: &mut [u8],
+) -> io::Result<()> {
     match holes(s) {
         0 => {
-            print(line);
-            print(b" = ");
-            print_answer(answer_at(leaf, number, s, 0, space), b" ");
+            rt.write_all(line)?;
+            rt.print(" = ")?;
+            print_answer(rt, answer_at(leaf, number, s, 0, space), " ")
         }
         1 => {
-            print(line);
-            print(b" =");
-            print_runs(leaf, number, s, space);
+            rt.write_all(line)?;
+            rt.print(" =")?;
+            print_runs(rt, leaf, number, s, space)
         }
-        _ => print_unfit(line),
+        _ => print_unfit(rt, line),
     }
 }
 
 // A line of three parts.
-fn print_parts(line: &[u8], name: NamedLeaf, number: Numeral, s: &[u8], space: &mut [u8]) {
+fn print_parts(
+    rt: &impl Print,
+    line: &[u8],
+    name: NamedLeaf,
+    number: Numeral,
+    s: &[u8],
+    space: &mut [u8],
+) -> io::Result<()> {
     match name {
         NamedLeaf::Named(leaf) => match number {
-            Numeral::Number(n) => print_case(line, leaf, n, s, space),
-            Numeral::Unfit => print_unfit(line),
+            Numeral::Number(n) => print_case(rt, line, leaf, n, s, space),
+            Numeral::Unfit => print_unfit(rt, line),
         },
-        NamedLeaf::Unknown => print_unfit(line),
+        NamedLeaf::Unknown => print_unfit(rt, line),
     }
 }
 
-fn print_line(line: &[u8], space: &mut [u8]) {
+fn print_line(rt: &impl Print, line: &[u8], space: &mut [u8]) -> io::Result<()> {
     let end = line.len();
-    let a = bytes::scan::find(line, 0, end, b' ');
+    let a = find(line, 0, b' ');
     if a == end {
-        print_unfit(line);
-        return;
+        return print_unfit(rt, line);
     }
     let after = a + 1;
-    let b = bytes::scan::find(line, after, end, b' ');
+    let b = find(line, after, b' ');
     if b == end {
-        print_unfit(line);
-        return;
+        return print_unfit(rt, line);
     }
     let last = b + 1;
     print_parts(
+        rt,
         line,
         leaf_of(&line[0..a]),
         numeral_of(&line[after..b], 10),
         &line[last..],
         space,
-    );
+    )
 }
 
 // Each line of the input, of which the last may lack its line feed.
-fn print_lines(input: &[u8], space: &mut [u8]) {
+fn print_lines(rt: &impl Print, input: &[u8], space: &mut [u8]) -> io::Result<()> {
     let mut from = 0;
     while from < input.len() {
-        let end = bytes::scan::find(input, from, input.len(), b'\n');
-        print_line(&input[from..end], space);
-        print(b"\n");
+        let end = find(input, from, b'\n');
+        print_line(rt, &input[from..end], space)?;
+        rt.print("\n")?;
         from = end + 1;
     }
+    Ok(())
 }
 
-fn main() {
+fn main(rt: HostRuntime) -> io::Result<()> {
     let mut input = [0u8; 262144];
     let mut space = [0u8; 262144];
-    let n = io::read_full(STDIN, &mut input);
-    print_lines(&input[..n], &mut space);
+    let n = cases::read_full(&mut rt.stdin(), &mut input)?;
+    print_lines(&rt, &input[..n], &mut space)
 }

@@ -7,8 +7,10 @@ mod output;
 mod paths;
 mod terms;
 
-fn main() {
-    paths::print_paths();
-    terms::print_terms();
-    messages::print_messages();
+use std::io;
+
+fn main(rt: HostRuntime) -> io::Result<()> {
+    paths::print_paths(&rt)?;
+    terms::print_terms(&rt)?;
+    messages::print_messages(&rt)
 }

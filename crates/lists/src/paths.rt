@@ -1,39 +1,41 @@
 // docs/PATHS.md.
-use crate::output::{print, print_cell, print_front};
+use crate::output::{print_cell, print_front};
+use std::io;
 
 // More numbers than there are paths.
 const LIMIT: u32 = 1000;
 
 // Prints a path's row: its number, and its text, the first n bytes of space.
-fn print_path(number: u32, space: &[u8], n: usize) {
-    print_cell(number);
-    print_front(space, n);
-    print(b" |\n");
+fn print_path(rt: &impl Print, number: u32, space: &[u8], n: usize) -> io::Result<()> {
+    print_cell(rt, number)?;
+    print_front(rt, space, n)?;
+    rt.print(" |\n")
 }
 
 // Prints the row of each path, up to the first number that has none.
-fn print_rows() {
-    let mut space = io::buffer();
+fn print_rows(rt: &impl Print) -> io::Result<()> {
+    let mut space = [0u8; 4096];
     let mut number: u32 = 1;
     while number < LIMIT {
         let n = labels::put_path_text(&mut space, 0, number as usize);
         if n == 0 {
-            return;
+            return Ok(());
         }
-        print_path(number, &space, n);
+        print_path(rt, number, &space, n)?;
         number += 1;
     }
+    Ok(())
 }
 
-pub(crate) fn print_paths() {
-    print(
-        b"# Paths
+pub(crate) fn print_paths(rt: &impl Print) -> io::Result<()> {
+    rt.print(
+        "# Paths
 
 The number of an entry's path, and the path as the Rust prints it, without the names above the settlement.
 
 | No. | Path |
 |---|---|
 ",
-    );
-    print_rows();
+    )?;
+    print_rows(rt)
 }

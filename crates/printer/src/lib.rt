@@ -2,13 +2,13 @@
 // "The printed reading"), for the programs that do so.
 //
 // The lines are made by crate `printed`, which is proved; here they are only written, until a write fails:
-// what arrives is a beginning of the reading. The crate trusts the C library's `write`, through `io`.
+// what arrives is a beginning of the reading, and the error is the answer. The crate trusts the C library's
+// `write`, through `std`.
 #![tactic(auto)]
 
 use report::{ENTRY_ROOM, HELD_ROOM, UNMAPPED_ROOM};
 use rulzhamm::rulzhamm_read;
-
-const STDOUT: i32 = 1;
+use std::io;
 
 // The room of the three lists, for 256 records.
 const HELD: usize = 256 * HELD_ROOM;
@@ -20,33 +20,34 @@ const UNMAPPED: usize = 256 * UNMAPPED_ROOM;
 // Writes the lines of what a call left, up to the first write that fails. A line of a text of at most
 // 65,536 bytes has room in `out`.
 fn print_lines(
+    rt: &impl Print,
     out: &mut [u8; 524288],
     text: &[u8],
     answer: &[i64; 65],
     held: &[i64; HELD],
     entries: &[i64; ENTRIES],
     unmapped: &[i64; UNMAPPED],
-) {
+) -> io::Result<()> {
     let lines = printed::line_count(answer, held, entries, unmapped);
     let mut k = 0;
     while k < lines {
         let n = printed::put_line(out, text, answer, held, entries, unmapped, k);
-        if !io::write_all(STDOUT, text::clip(out, 0, n)) {
-            return;
-        }
+        rt.write_all(text::clip(out, 0, n))?;
         k += 1;
     }
+    Ok(())
 }
 
 // Reads a settlement and prints its reading; a larger table is refused (10).
 pub fn print_reading(
+    rt: &impl Print,
     table: &[u32],
     text: &[u8],
     currency: &[u8],
     identifier: &[u8],
     rules: u32,
     mode: u32,
-) {
+) -> io::Result<()> {
     let mut held = [0i64; HELD];
     let mut entries = [0i64; ENTRIES];
     let mut unmapped = [0i64; UNMAPPED];
@@ -64,5 +65,5 @@ pub fn print_reading(
         &mut answer,
     );
     let mut out = [0u8; 524288];
-    print_lines(&mut out, text, &answer, &held, &entries, &unmapped);
+    print_lines(rt, &mut out, text, &answer, &held, &entries, &unmapped)
 }

@@ -5,16 +5,15 @@
 //
 // What is fit to be read is decided by crate `inputs`, and the lines are made by crate `printed`; both
 // are proved. Here files are read and `unfit` is written, which trusts the C library's `open`, `read` and
-// `write`.
+// `write`, through `std`.
 #![tactic(auto)]
 
 ghost use Rattle.std.specs.Prelude.{◌≡◌, length};
 
 use inputs::{Fields, Line, bytes_at, input_of, numbers_of};
-
-const STDIN: i32 = 0;
-
-const STDOUT: i32 = 1;
+use std::io::Read;
+use std::rt::Files;
+use std::{fs, io};
 
 // What was read of a file: so many bytes, or nothing where it cannot be read.
 #[derive(Clone, Copy)]
@@ -23,53 +22,59 @@ enum Contents {
     Unreadable,
 }
 
-// Reads an open file as far as buf has room. Where that ends before, asking again tells an end from
-// a failure.
-fn contents_of(fd: i32, buf: &mut [u8]) -> Contents {
-    let n = io::read_full(fd, buf);
-    if n < buf.len() {
-        if libc::read(fd, &mut buf[n..]) != 0 {
-            return Contents::Unreadable;
+// Reads an open file as far as buf has room.
+fn contents_of<R: Read>(reader: &mut R, buf: &mut [u8]) -> Contents {
+    let mut done = 0;
+    while done < buf.len() {
+        match reader.read(&mut buf[done..]) {
+            Ok(0) => break,
+            Ok(n) => done += n,
+            Err(_) => return Contents::Unreadable,
         }
     }
-    Contents::Bytes(n)
+    Contents::Bytes(done)
 }
 
 // Reads a file by its name.
-fn file_contents(name: &[u8], buf: &mut [u8]) -> Contents {
-    let fd = os::open_read(name);
-    if fd < 0 {
-        return Contents::Unreadable;
+fn file_contents(rt: &impl Files, name: &str, buf: &mut [u8]) -> Contents {
+    match fs::open(rt, name) {
+        Ok(mut file) => contents_of(&mut file, buf),
+        Err(_) => Contents::Unreadable,
     }
-    contents_of(fd, buf)
 }
 
 // The reading of a fit input. More numbers than the table has room for are not fit.
-fn print_fit(records: &[u8], text: &[u8], input: &[u8], fields: Fields) {
+fn print_fit(
+    rt: &impl Print,
+    records: &[u8],
+    text: &[u8],
+    input: &[u8],
+    fields: Fields,
+) -> io::Result<()> {
     let mut table = [0u32; 1536];
     let count = numbers_of(records, &mut table);
     let currency = fields.currency;
     let identifier = fields.identifier;
     if count <= table.len() {
         printer::print_reading(
+            rt,
             &table[0..count],
             text,
             bytes_at(input, currency),
             bytes_at(input, identifier),
             fields.rules,
             fields.mode,
-        );
+        )?;
     }
+    Ok(())
 }
 
 // The reading, or that the input is unfit.
-fn print_input(records: &[u8], text: &[u8], input: &[u8]) {
+fn print_input(rt: &impl Print, records: &[u8], text: &[u8], input: &[u8]) -> io::Result<()> {
     let line = input_of(records, text, input);
     match line {
-        Line::Fit(fields) => print_fit(records, text, input, fields),
-        Line::Unfit => {
-            io::write_all(STDOUT, b"unfit\n");
-        }
+        Line::Fit(fields) => print_fit(rt, records, text, input, fields),
+        Line::Unfit => rt.write_all(b"unfit\n"),
     }
 }
 
@@ -81,24 +86,24 @@ fn line_buffer() -> [u8; 4194305]
 }
 
 // Each buffer has a byte more than is fit, so that what is too long is seen.
-fn main() {
+fn main(rt: HostRuntime) -> io::Result<()> {
     let mut records = [0u8; 6145];
     let mut text = [0u8; 65537];
     let mut input = line_buffer();
-    let recs = file_contents(b"settlement.rec", &mut records);
-    let txt = file_contents(b"settlement.txt", &mut text);
-    let line = contents_of(STDIN, &mut input);
+    let recs = file_contents(&rt, "settlement.rec", &mut records);
+    let txt = file_contents(&rt, "settlement.txt", &mut text);
+    let line = contents_of(&mut rt.stdin(), &mut input);
     if let Contents::Bytes(n) = recs {
         if let Contents::Bytes(m) = txt {
             if let Contents::Bytes(k) = line {
-                print_input(
+                return print_input(
+                    &rt,
                     text::clip(&records, 0, n),
                     text::clip(&text, 0, m),
                     text::clip(&input, 0, k),
                 );
-                return;
             }
         }
     }
-    io::write_all(STDOUT, b"unfit\n");
+    rt.write_all(b"unfit\n")
 }

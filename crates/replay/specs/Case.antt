@@ -1,6 +1,6 @@
 -- Where the input line of a stored case ends: behind its fourth field.
 use Rattle.std.specs.Prelude.{cond, List, ℕ, ◌+◌, ltb, length}
-use Rattle.bytes.specs.Bytes.{index_of, slice}
+use Rattle.cases.specs.Places.{index_of, slice}
 
 -- the first space from a place on, the end where there is none
 unfoldable pub space_from : List ℕ → ℕ → ℕ

@@ -9,14 +9,12 @@
 ghost use Rattle.std.specs.Prelude.{◌≡◌, ◌≤◌, length};
 ghost use Rattle.replay.specs.Case.{space_from, next_space, fields_end};
 
+use cases::find;
 use inputs::{Fields, Line, bytes_at};
+use std::io;
 
-const STDIN: i32 = 0;
-
-const STDOUT: i32 = 1;
-
-fn print_unfit() {
-    io::write_all(STDOUT, b"unfit\n");
+fn print_unfit(rt: &impl Print) -> io::Result<()> {
+    rt.write_all(b"unfit\n")
 }
 
 // The first space from a place on, the end where there is none.
@@ -24,7 +22,7 @@ fn space_from(line: &[u8], from: usize) -> usize
     requires { from ≤ length line.now }
     ensures { result ≡ space_from line.now from }
 {
-    bytes::scan::find(line, from, line.len(), b' ')
+    find(line, from, b' ')
 }
 
 // The next space behind a place.
@@ -48,82 +46,105 @@ fn fields_end(line: &[u8]) -> usize
 }
 
 // The reading of a table and its text, under what an input line says.
-fn print_fit(input: &[u8], fields: Fields, table: &[u32], text: &[u8]) {
+fn print_fit(
+    rt: &impl Print,
+    input: &[u8],
+    fields: Fields,
+    table: &[u32],
+    text: &[u8],
+) -> io::Result<()> {
     let currency = fields.currency;
     let identifier = fields.identifier;
     printer::print_reading(
+        rt,
         table,
         text,
         bytes_at(input, currency),
         bytes_at(input, identifier),
         fields.rules,
         fields.mode,
-    );
+    )
 }
 
 // The same, unless the input line is unfit.
-fn print_table(input: &[u8], table: &[u32], text: &[u8]) {
+fn print_table(rt: &impl Print, input: &[u8], table: &[u32], text: &[u8]) -> io::Result<()> {
     let line = inputs::parse_line(input);
     match line {
-        Line::Fit(fields) => print_fit(input, fields, table, text),
-        Line::Unfit => print_unfit(),
+        Line::Fit(fields) => print_fit(rt, input, fields, table, text),
+        Line::Unfit => print_unfit(rt),
     }
 }
 
 // A case by its parts: input line, numbers, text, the table being the space for the numbers.
-fn print_parts(input: &[u8], numbers: &[u8], text: &[u8], table: &mut [u32]) {
+fn print_parts(
+    rt: &impl Print,
+    input: &[u8],
+    numbers: &[u8],
+    text: &[u8],
+    table: &mut [u32],
+) -> io::Result<()> {
     let n = cases::numbers(numbers, table);
     if n <= table.len() {
-        print_table(input, &table[0..n], text);
-        return;
+        return print_table(rt, input, &table[0..n], text);
     }
-    print_unfit();
+    print_unfit(rt)
 }
 
 // A case, for which table and text are the space. No numbers are an empty table.
-fn print_case(line: &[u8], table: &mut [u32], text: &mut [u8]) {
+fn print_case(rt: &impl Print, line: &[u8], table: &mut [u32], text: &mut [u8]) -> io::Result<()> {
     let end = line.len();
     let head = fields_end(line);
     if end <= head {
-        print_unfit();
-        return;
+        return print_unfit(rt);
     }
-    let colon = bytes::scan::find(line, head, end, b':');
+    let colon = find(line, head, b':');
     if end <= colon {
-        print_unfit();
-        return;
+        return print_unfit(rt);
     }
     let from = head + 1;
     let after = colon + 1;
     let m = cases::fill(&line[after..], 0, text);
     if colon <= from {
-        print_table(&line[0..head], &table[0..0], text::clip(text, 0, m));
-        return;
+        return print_table(rt, &line[0..head], &table[0..0], text::clip(text, 0, m));
     }
     let to = colon - 1;
     print_parts(
+        rt,
         &line[0..head],
         &line[from..to],
         text::clip(text, 0, m),
         table,
-    );
+    )
 }
 
 // Each line of the input, of which the last may lack its line feed.
-fn print_cases(input: &[u8], table: &mut [u32], text: &mut [u8]) {
+fn print_cases(
+    rt: &impl Print,
+    input: &[u8],
+    table: &mut [u32],
+    text: &mut [u8],
+) -> io::Result<()> {
     let mut from = 0;
     while from < input.len() {
-        let end = bytes::scan::find(input, from, input.len(), b'\n');
-        print_case(&input[from..end], table, text);
-        io::write_all(STDOUT, b"\n");
+        let end = find(input, from, b'\n');
+        print_case(rt, &input[from..end], table, text)?;
+        rt.write_all(b"\n")?;
         from = end + 1;
     }
+    Ok(())
 }
 
-fn main() {
-    let mut input = [0u8; 524288];
+// Zeros for the input. The `ensures` gives only the length: so many zeros are more than a proof can hold.
+fn input_buffer() -> [u8; 524288]
+    ensures { 524288 ≡ length result }
+{
+    [0; 524288]
+}
+
+fn main(rt: HostRuntime) -> io::Result<()> {
+    let mut input = input_buffer();
     let mut table = [0u32; 1536];
     let mut text = [0u8; 65536];
-    let n = io::read_full(STDIN, &mut input);
-    print_cases(&input[..n], &mut table, &mut text);
+    let n = cases::read_full(&mut rt.stdin(), &mut input)?;
+    print_cases(&rt, &input[..n], &mut table, &mut text)
 }

@@ -6,3 +6,4 @@ pub mod Few
 pub mod Names
 pub mod Narrow
 pub mod Witness
+pub mod Examples

@@ -7,8 +7,7 @@ ghost use Rattle.rulzhamm.specs.Called.{Called};
 use crate::terms_row::put_answer;
 
 // Reads a settlement: `reader::read`, with its answer written as a row.
-#[unsafe(no_mangle)]
-pub extern "C" fn rulzhamm_read(
+pub fn rulzhamm_read(
     table: &[u32],
     text: &[u8],
     currency: &[u8],

@@ -11,9 +11,9 @@ mod answer;
 
 ghost use Rattle.std.specs.Prelude.{◌≡◌};
 
-use crate::answer::{print, print_answer};
-
-const STDIN: i32 = 0;
+use crate::answer::print_answer;
+use cases::find;
+use std::io;
 
 fn wide(x: u32) -> usize
     ensures { result ≡ x }
@@ -22,78 +22,90 @@ fn wide(x: u32) -> usize
 }
 
 // The answer for the first n of the zeros and m of the blank bytes.
-fn print_zeros(n: usize, m: usize, zeros: &[u32], blank: &[u8]) {
+fn print_zeros(rt: &impl Print, n: usize, m: usize, zeros: &[u32], blank: &[u8]) -> io::Result<()> {
     if n <= zeros.len() {
         if m <= blank.len() {
-            print_answer(&zeros[0..n], &blank[0..m]);
-            return;
+            return print_answer(rt, &zeros[0..n], &blank[0..m]);
         }
     }
-    print(b"unfit");
+    rt.print("unfit")
 }
 
 // The two numbers of a line `zeros N M`.
-fn print_counts(counts: &[u8], zeros: &[u32], blank: &[u8]) {
+fn print_counts(rt: &impl Print, counts: &[u8], zeros: &[u32], blank: &[u8]) -> io::Result<()> {
     let mut both = [0u32; 2];
     let n = cases::numbers(counts, &mut both);
     if n == 2 {
-        print_zeros(wide(both[0]), wide(both[1]), zeros, blank);
-        return;
+        return print_zeros(rt, wide(both[0]), wide(both[1]), zeros, blank);
     }
-    print(b"unfit");
+    rt.print("unfit")
 }
 
 // A table's numbers and its text, for which table and text are the space.
-fn print_table(numbers: &[u8], escaped: &[u8], table: &mut [u32], text: &mut [u8]) {
+fn print_table(
+    rt: &impl Print,
+    numbers: &[u8],
+    escaped: &[u8],
+    table: &mut [u32],
+    text: &mut [u8],
+) -> io::Result<()> {
     let n = cases::numbers(numbers, table);
     let m = cases::fill(escaped, 0, text);
     if n <= table.len() {
-        print_answer(&table[0..n], text::part(text, 0, m));
-        return;
+        return print_answer(rt, &table[0..n], text::part(text, 0, m));
     }
-    print(b"unfit");
+    rt.print("unfit")
 }
 
-fn print_line(line: &[u8], table: &mut [u32], text: &mut [u8], zeros: &[u32], blank: &[u8]) {
+fn print_line(
+    rt: &impl Print,
+    line: &[u8],
+    table: &mut [u32],
+    text: &mut [u8],
+    zeros: &[u32],
+    blank: &[u8],
+) -> io::Result<()> {
     let end = line.len();
     if end < 6 {
-        print(b"unfit");
-        return;
+        return rt.print("unfit");
     }
     if line[0] == b'z' {
-        print_counts(&line[6..], zeros, blank);
-        return;
+        return print_counts(rt, &line[6..], zeros, blank);
     }
-    let colon = bytes::scan::find(line, 1, end, b':');
+    let colon = find(line, 1, b':');
     if colon == end {
-        print(b"unfit");
-        return;
-    }
-    if colon == 0 {
-        return;
+        return rt.print("unfit");
     }
     let before = colon - 1;
     let after = colon + 1;
-    print_table(&line[0..before], &line[after..], table, text);
+    print_table(rt, &line[0..before], &line[after..], table, text)
 }
 
 // Each line of the input, of which the last may lack its line feed.
-fn print_lines(input: &[u8], table: &mut [u32], text: &mut [u8], zeros: &[u32], blank: &[u8]) {
+fn print_lines(
+    rt: &impl Print,
+    input: &[u8],
+    table: &mut [u32],
+    text: &mut [u8],
+    zeros: &[u32],
+    blank: &[u8],
+) -> io::Result<()> {
     let mut from = 0;
     while from < input.len() {
-        let end = bytes::scan::find(input, from, input.len(), b'\n');
-        print_line(&input[from..end], table, text, zeros, blank);
-        print(b"\n");
+        let end = find(input, from, b'\n');
+        print_line(rt, &input[from..end], table, text, zeros, blank)?;
+        rt.print("\n")?;
         from = end + 1;
     }
+    Ok(())
 }
 
-fn main() {
+fn main(rt: HostRuntime) -> io::Result<()> {
     let mut input = [0u8; 262144];
     let mut table = [0u32; 4096];
     let mut text = [0u8; 65536];
     let zeros = [0u32; 24600];
-    let blank = io::large_buffer();
-    let n = io::read_full(STDIN, &mut input);
-    print_lines(&input[..n], &mut table, &mut text, &zeros, &blank);
+    let blank = [0u8; 65536];
+    let n = cases::read_full(&mut rt.stdin(), &mut input)?;
+    print_lines(&rt, &input[..n], &mut table, &mut text, &zeros, &blank)
 }

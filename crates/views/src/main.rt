@@ -6,8 +6,7 @@
 #![tactic(auto)]
 
 use decimals::{put_byte, put_signed};
-
-const STDOUT: i32 = 1;
+use std::io;
 
 // Starts and lengths.
 const NUMBERS: [i64; 12] = [
@@ -25,39 +24,36 @@ const NUMBERS: [i64; 12] = [
     9223372036854775807,
 ];
 
-fn print(s: &[u8]) {
-    io::write_all(STDOUT, s);
-}
-
 // Both numbers of a place.
-fn print_place(start: i64, length: i64) {
+fn print_place(rt: &impl Print, start: i64, length: i64) -> io::Result<()> {
     let mut out = [0u8; 42];
     let space = put_signed(&mut out, 0, start);
     let next = put_byte(&mut out, space, b' ');
     let end = put_signed(&mut out, next, length);
-    print(text::clip(&out, 0, end));
+    rt.write_all(text::clip(&out, 0, end))
 }
 
 // What the view of a place answers.
-fn print_view(text: &[u8], start: i64, length: i64) {
-    print_place(start, length);
+fn print_view(rt: &impl Print, text: &[u8], start: i64, length: i64) -> io::Result<()> {
+    print_place(rt, start, length)?;
     if view::is_there_at(text, start, length) {
-        print(b" there:");
+        rt.write_all(b" there:")?;
     } else {
-        print(b" none:");
+        rt.write_all(b" none:")?;
     }
-    print(view::bytes_at(text, start, length));
-    print(b"\n");
+    rt.write_all(view::bytes_at(text, start, length))?;
+    rt.write_all(b"\n")
 }
 
 // Each start with each length.
-fn print_text(text: &[u8]) {
+fn print_text(rt: &impl Print, text: &[u8]) -> io::Result<()> {
     for i in 0..144 {
-        print_view(text, NUMBERS[i / 12], NUMBERS[i % 12]);
+        print_view(rt, text, NUMBERS[i / 12], NUMBERS[i % 12])?;
     }
+    Ok(())
 }
 
-fn main() {
-    print_text(b"");
-    print_text(b"DE1EUR");
+fn main(rt: HostRuntime) -> io::Result<()> {
+    print_text(&rt, b"")?;
+    print_text(&rt, b"DE1EUR")
 }
