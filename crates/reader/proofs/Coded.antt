@@ -10,11 +10,8 @@ use Rattle.report.specs.Encoding.{rows_then}
 use Rattle.report.specs.Values.{place_of, text_of, amount_of, day_of}
 use Rattle.report.specs.declared.value.Place as CodePlace
 use Rattle.report.specs.declared.value.Text.{Text}
-use Rattle.report.specs.declared.value.Text.TheVariants as Text
 use Rattle.report.specs.declared.value.Amount.{Amount}
-use Rattle.report.specs.declared.value.Amount.TheVariants as Amount
 use Rattle.report.specs.declared.value.Day.{Day}
-use Rattle.report.specs.declared.value.Day.TheVariants as Day
 use Rattle.settlement.specs.Shapes.{Identifier, Payee, Means, unset, card, debit, transfers, Period, Totals, Terms}
 use Rattle.settlement.specs.Values.{Lent}
 use Rattle.settlement.specs.Outcome.{outcome}
@@ -22,9 +19,7 @@ use Rattle.settlement.specs.Result.{Result, result_of}
 use Rattle.groups.specs.Groups.{maybe_identifier_of}
 use Rattle.groups.specs.Taxes.{point_code_of}
 use Rattle.groups.specs.declared.shapes.MaybeIdentifier.{MaybeIdentifier}
-use Rattle.groups.specs.declared.shapes.MaybeIdentifier.TheVariants as MaybeIdentifier
 use Rattle.groups.specs.declared.shapes.PointCode.{PointCode}
-use Rattle.groups.specs.declared.shapes.PointCode.TheVariants as PointCode
 use Rattle.payment.specs.Walks.{means_of}
 use Rattle.payment.specs.declared.paying.Means as CodeMeans
 use Rattle.payment.specs.declared.paying.Means.TheVariants as Variant
@@ -32,9 +27,7 @@ use Rattle.totals.specs.Reading.{totals_of}
 use Rattle.totals.specs.declared.state.Totals as CodeTotals
 use Rattle.steps.specs.States.{maybe_payee_of, maybe_period_of}
 use Rattle.steps.specs.declared.state.MaybePayee.{MaybePayee}
-use Rattle.steps.specs.declared.state.MaybePayee.TheVariants as MaybePayee
 use Rattle.steps.specs.declared.state.MaybePeriod.{MaybePeriod}
-use Rattle.steps.specs.declared.state.MaybePeriod.TheVariants as MaybePeriod
 use Rattle.terms.specs.Terms.{terms_of}
 use Rattle.terms.specs.declared.terms.Terms as CodeTerms
 use Rattle.reader.specs.Answered.{room_of}
