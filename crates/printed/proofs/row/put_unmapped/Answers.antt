@@ -1,0 +1,8 @@
+use Rattle.text.specs.Utf8.{bytes, encode}
+use Rattle.printed.proofs.Putting.{unmapped_put}
+use Rattle.printed.proofs.row.put_unmapped.Goals as goal
+
+pub returns : goal.returns
+unfolding bytes encode
+returns c =
+    unmapped_put _ _ c.put_bytes-next.ensures c.put_element-end.ensures c.put_bytes.ensures
