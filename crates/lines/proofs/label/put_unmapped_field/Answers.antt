@@ -1,0 +1,5 @@
+use Rattle.lines.proofs.Naming.{unmapped_put}
+use Rattle.lines.proofs.label.put_unmapped_field.Goals as goal
+
+pub returns : goal.returns
+returns c = search unmapped_put
