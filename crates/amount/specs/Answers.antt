@@ -3,7 +3,6 @@ use Rattle.std.specs.Prelude.{ℕ, ℤ}
 use Rattle.text.specs.Answer.{Answer, read, says, silent}
 use Rattle.amount.specs.declared.amount.ParsedAmount.{ParsedAmount}
 use Rattle.amount.specs.declared.amount.ParsedAmount.TheVariants as Parsed
-use Rattle.amount.specs.declared.numeric.Percentage.{Percentage}
 use Rattle.amount.specs.declared.numeric.ParsedPercentage.{ParsedPercentage}
 use Rattle.amount.specs.declared.numeric.ParsedPercentage.TheVariants as Rated
 

@@ -6,7 +6,6 @@ use Rattle.amount.specs.declared.decimal.Walk.{Walk}
 use Rattle.amount.specs.declared.decimal.Walk.TheVariants.{Nothing, Whole, Fraction, Malformed}
 use Rattle.amount.specs.declared.amount.ParsedAmount.{ParsedAmount}
 use Rattle.amount.specs.declared.amount.ParsedAmount.TheVariants as Parsed
-use Rattle.amount.specs.declared.numeric.Percentage.{Percentage}
 use Rattle.amount.specs.declared.numeric.ParsedPercentage.{ParsedPercentage}
 use Rattle.amount.specs.declared.numeric.ParsedPercentage.TheVariants as Rated
 use Rattle.amount.specs.Decimal.{signed}

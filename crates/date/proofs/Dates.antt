@@ -9,11 +9,11 @@ use lib.ListN.{length}
 use Rattle.text.specs.declared.digit.Numeral.{Numeral}
 use Rattle.text.specs.declared.digit.Numeral.TheVariants.{Number, Unfit}
 use Rattle.text.specs.Answer.{Answer, says}
-use Rattle.text.specs.Digits.{all_digits, number, numeral_of}
+use Rattle.text.specs.Digits.{all_digits, numeral_of}
 use Rattle.text.specs.Range.{within}
 use Rattle.text.proofs.Digits.{is_numeral, no_numeral}
 use Rattle.characters.specs.Trim.{trim_of}
-use Rattle.date.specs.Date.{is_day, year, month, day, eight_digits, numbered, date_of, parsed_date}
+use Rattle.date.specs.Date.{eight_digits, numbered, date_of, parsed_date}
 use Rattle.date.proofs.Parts.{year_is, month_is, day_is}
 
 -- a text of another length

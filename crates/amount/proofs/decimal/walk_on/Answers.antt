@@ -1,5 +1,4 @@
 use mathlib.Core.Path.{refl}
-use Prim.Native.Nat.{◌-◌}
 use Rattle.amount.proofs.Walks.{run_left, run_on, run_end}
 use Rattle.amount.proofs.decimal.walk_on.Goals as goal
 

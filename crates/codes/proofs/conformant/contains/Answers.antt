@@ -1,5 +1,4 @@
 use mathlib.Core.Path.{refl}
-use Prim.Native.Nat.{◌-◌}
 use native.Mathlib.Omega.{arith}
 use Rattle.codes.proofs.Containing.{contains_here, contains_on, contains_end}
 use Rattle.codes.proofs.conformant.contains.Goals as goal

@@ -1,4 +1,3 @@
-use Prim.Native.Nat.{◌-◌}
 use Rattle.codes.proofs.Ascending.{between_all, between_none, between_here, between_up, between_down}
 use Rattle.codes.proofs.currency.find.Goals as goal
 

@@ -1,5 +1,5 @@
 use Prim.Native.Nat.{◌-◌}
-use Rattle.codes.proofs.Ascending.{Between, between_all, between_none, between_here, between_up, between_down}
+use Rattle.codes.proofs.Ascending.{Between}
 use Rattle.codes.proofs.currency.find.Given as goal
 
 abbrev pub invariant-loop-lo : goal.invariant-loop-lo

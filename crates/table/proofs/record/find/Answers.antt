@@ -1,5 +1,4 @@
 use mathlib.Core.Path.{refl}
-use Prim.Native.Nat.{◌-◌}
 use Rattle.table.proofs.Scans.{scan_on, scan_hit, scan_end}
 use Rattle.table.proofs.Kin.{first-named, found_hit}
 use Rattle.table.proofs.record.find.Goals as goal

@@ -1,4 +1,4 @@
-use mathlib.Core.Path.{◌≡◌, refl}
+use mathlib.Core.Path.{◌≡◌}
 use Prim.Native.Nat.{◌-◌}
 use Rattle.table.specs.Table.{first_named, kin_named, first_from}
 use Rattle.table.proofs.record.find.Given as goal
