@@ -135,5 +135,5 @@ module _ (t : List ℕ) where
       let n = records t in
       let e : suc (n - 1) ≡ n = omega arith in
       let k : total (λ c. length (below t 1 c n)) (0 ∷ below t 1 0 n) ≤ n - 1 =
-          subst (λ m. total (λ c. length (below t 1 c m)) (0 ∷ below t 1 0 n) ≤ n - 1) e (all_kids (0 ∷ below t 1 0 n) (once_with_root n) (n - 1)) in
+      subst (λ m. total (λ c. length (below t 1 c m)) (0 ∷ below t 1 0 n) ≤ n - 1) e (all_kids (0 ∷ below t 1 0 n) (once_with_root n) (n - 1)) in
       omega (arith, k, total_suc (λ c. length (below t 1 c n)) (below t 1 0 n))

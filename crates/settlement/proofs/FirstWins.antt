@@ -8,7 +8,6 @@ use Rattle.text.specs.Utf8.{bytes}
 use Rattle.codes.specs.VatPoint.{vat_point_date_code_of}
 use Rattle.names.specs.declared.message.Message.{Message}
 use Rattle.names.specs.declared.path.Path.{Path}
-use Rattle.names.specs.declared.path.Path.TheVariants as Path
 use Rattle.settlement.specs.Document.{Doc, maybe, or_else}
 use Rattle.settlement.specs.Kinds.{Kind, payment_means, trade_tax, same_kind, home, is_yes}
 use Rattle.settlement.specs.Shapes.{Means, unset, card, debit, transfers, Payment, VatState, Of, State, blank}

@@ -13,7 +13,6 @@ use Rattle.codes.specs.DateFormat.{date_format}
 use Rattle.codes.specs.declared.rules.Rule.{Rule}
 use Rattle.date.specs.Date.{parsed_date}
 use Rattle.names.specs.declared.message.Message.{Message}
-use Rattle.names.specs.declared.message.Message.TheVariants as Message
 use Rattle.names.specs.declared.path.Path.{Path}
 use Rattle.names.specs.declared.term.Term.TheVariants as Term
 use Rattle.settlement.specs.Document.{Doc, maybe, or_else, or}

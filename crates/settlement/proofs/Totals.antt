@@ -15,7 +15,7 @@ use Rattle.report.specs.Rows.{Entry}
 use Rattle.settlement.specs.Document.{Doc, maybe, or_else, or}
 use Rattle.settlement.specs.Kinds.{Kind, summation, same_kind, home}
 use Rattle.settlement.specs.Shapes.{Totals, no_totals, State, blank, Currencies}
-use Rattle.settlement.specs.Values.{Lent, site, text_bytes, first, kid, attribute, amount}
+use Rattle.settlement.specs.Values.{Lent, site, text_bytes, first, kid, attribute}
 use Rattle.settlement.specs.Summation.{unread, sums, Summing, is_none, with_vat, sum_of, is_currency, tax_in, tax_amount, tax_total_of, summand, summing, summed, totals}
 use Rattle.settlement.specs.Settlement.{own, kind_of, so_far, seen, act, step, after, terms_of, reading_of}
 use Rattle.settlement.specs.Alike.{keep}
@@ -26,7 +26,7 @@ use Rattle.settlement.specs.TaxTotals.{currencies_before, tax_totals_in, is_in_c
 use Rattle.settlement.proofs.Naming.{Each, meant_one}
 use Rattle.settlement.proofs.Lanes.{same_kind_eq}
 use Rattle.settlement.proofs.Exchange.{frame, own_lane}
-use Rattle.settlement.proofs.Names.{kind_name, own_of, home_is, at_home}
+use Rattle.settlement.proofs.Names.{own_of, home_is, at_home}
 use Rattle.settlement.proofs.PlainValues.{answered_is, amount_is}
 use Rattle.settlement.proofs.LastWins.{last_walk, bt5_last, bt6_last, total_last}
 use Rattle.settlement.proofs.FirstWins.{or-none, or_join}

@@ -1,6 +1,6 @@
 -- Worked examples of document 01's rules and of the requests that changed them, as equations about the definitions, and the example of "The printed reading" with its table.
 use Rattle.std.specs.Prelude.{◌≡◌, false, List, [], ◌∷◌, ℕ, pos}
-use Rattle.std.proofs.Math.Option.{Option, none, some}
+use Rattle.std.proofs.Math.Option.{none, some}
 use Prim.Native.String.{String}
 use Rattle.text.specs.Utf8.{bytes}
 use Rattle.names.specs.declared.message.Message.TheVariants as Message

@@ -5,7 +5,6 @@ use Prim.Native.String.{String}
 use Rattle.text.specs.Order.{equal}
 use Rattle.text.specs.Utf8.{bytes}
 use Rattle.names.specs.declared.parent.Parent.{Parent}
-use Rattle.names.specs.declared.parent.Parent.TheVariants as Parent
 use Rattle.report.specs.Rows.{Unmapped}
 use Rattle.settlement.specs.Document.{Doc}
 use Rattle.settlement.specs.Kinds.{kinds}

@@ -5,10 +5,8 @@ use Rattle.std.proofs.Math.Option.{Option, none, some}
 use Prim.Native.String.{String}
 use Rattle.text.specs.Utf8.{bytes}
 use Rattle.names.specs.declared.message.Message.{Message}
-use Rattle.names.specs.declared.message.Message.TheVariants as Message
 use Rattle.names.specs.declared.parent.Parent.TheVariants as Parent
 use Rattle.names.specs.declared.path.Path.{Path}
-use Rattle.names.specs.declared.path.Path.TheVariants as Path
 use Rattle.names.specs.declared.term.Term.TheVariants as Term
 use Rattle.report.specs.Rows.{Entry, Transfer, transfer, Unmapped}
 use Rattle.settlement.specs.Document.{Doc, maybe, or_else}

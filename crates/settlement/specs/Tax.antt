@@ -7,12 +7,9 @@ use Rattle.text.specs.Utf8.{bytes}
 use Rattle.codes.specs.Boolean.{boolean_of}
 use Rattle.codes.specs.VatPoint.{vat_point_date_code_of}
 use Rattle.codes.specs.declared.rules.Rule.{Rule}
-use Rattle.codes.specs.declared.rules.Rule.TheVariants as Rule
 use Rattle.names.specs.declared.message.Message.TheVariants as Message
 use Rattle.names.specs.declared.path.Path.{Path}
-use Rattle.names.specs.declared.path.Path.TheVariants as Path
 use Rattle.names.specs.declared.term.Term.{Term}
-use Rattle.names.specs.declared.term.Term.TheVariants as Term
 use Rattle.report.specs.Rows.{Held, vat, allowance, charge}
 use Rattle.settlement.specs.Document.{Doc, maybe}
 use Rattle.settlement.specs.Shapes.{VatState, Counts, Act}

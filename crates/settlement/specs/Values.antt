@@ -15,10 +15,8 @@ use Rattle.codes.specs.Rules.{in_force}
 use Rattle.codes.specs.Vat as Code
 use Rattle.codes.specs.declared.rules.Rule.{Rule}
 use Rattle.names.specs.declared.message.Message.{Message}
-use Rattle.names.specs.declared.message.Message.TheVariants as Message
 use Rattle.names.specs.declared.path.Path.{Path}
 use Rattle.names.specs.declared.term.Term.{Term}
-use Rattle.names.specs.declared.term.Term.TheVariants as Term
 use Rattle.report.specs.Rows.{Entry}
 use Rattle.settlement.specs.Document.{Doc, maybe, or}
 

@@ -15,13 +15,9 @@ use Rattle.steps.specs.declared.state.Tally.{Tally}
 use Rattle.steps.specs.declared.state.Billing.{Billing}
 use Rattle.steps.specs.declared.state.State as Code
 use Rattle.steps.specs.declared.state.Reference.{Reference}
-use Rattle.steps.specs.declared.state.Reference.TheVariants as Reference
 use Rattle.steps.specs.declared.state.MaybePayee.{MaybePayee}
-use Rattle.steps.specs.declared.state.MaybePayee.TheVariants as MaybePayee
 use Rattle.steps.specs.declared.state.MaybePeriod.{MaybePeriod}
-use Rattle.steps.specs.declared.state.MaybePeriod.TheVariants as MaybePeriod
 use Rattle.steps.specs.declared.state.MaybeTotals.{MaybeTotals}
-use Rattle.steps.specs.declared.state.MaybeTotals.TheVariants as MaybeTotals
 
 -- BT-83, where a reference was met
 abbrev pub reference_of : Reference → Option (Option Place)

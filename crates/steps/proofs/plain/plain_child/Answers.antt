@@ -1,7 +1,3 @@
-use Rattle.std.proofs.lemmas.Bool.Decides.{nat_tests}
-use Rattle.std.proofs.Common.{arith}
-use Rattle.std.proofs.Common.{rules}
-use Rattle.std.proofs.Common.{tests}
 use mathlib.Core.Path.{refl, ap}
 use mathlib.Core.Option.{some}
 use Rattle.settlement.specs.Kinds.{same_kind, home}
