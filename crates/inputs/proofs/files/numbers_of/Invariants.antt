@@ -1,7 +1,7 @@
-use mathlib.Core.Path.{◌≡◌, refl}
+use mathlib.Core.Path.{◌≡◌}
 use Prim.Native.Nat.{◌≤◌, ◌-◌, ◌/◌}
 use lib.ListN.{length}
-use Rattle.inputs.proofs.Numbers.{Putting, putting_start, putting_turn, putting_end}
+use Rattle.inputs.proofs.Numbers.{Putting}
 use Rattle.inputs.proofs.files.numbers_of.Given as goal
 
 abbrev pub invariant-loop-k : goal.invariant-loop-k

@@ -1,4 +1,3 @@
-use Prim.Native.Nat.{◌-◌}
 use Rattle.inputs.proofs.Bytes.{passing_start, field_here, field_turn, field_past}
 use Rattle.inputs.proofs.parts.field_at.Goals as goal
 

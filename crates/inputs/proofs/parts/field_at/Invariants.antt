@@ -1,6 +1,6 @@
 use Prim.Native.Nat.{◌-◌}
 use lib.ListN.{length}
-use Rattle.inputs.proofs.Bytes.{Passing, passing_start, field_here, field_turn, field_past}
+use Rattle.inputs.proofs.Bytes.{Passing}
 use Rattle.inputs.proofs.parts.field_at.Given as goal
 
 abbrev pub invariant-loop-i : goal.invariant-loop-i
