@@ -1,5 +1,4 @@
-use Rattle.std.proofs.Common.{rules}
-use Rattle.std.proofs.Common.{tests}
+use Rattle.std.proofs.Common.{rules, tests}
 use Rattle.cases.specs.Symbols.{symbol}
 use Rattle.cases.proofs.symbol_of.Goals as goal
 

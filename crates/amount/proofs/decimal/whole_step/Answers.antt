@@ -1,5 +1,4 @@
-use Rattle.std.proofs.Common.{rules}
-use Rattle.std.proofs.Common.{tests}
+use Rattle.std.proofs.Common.{rules, tests}
 use Rattle.text.proofs.Bools.{passed}
 use Rattle.amount.specs.Walk.{whole_step}
 use Rattle.amount.proofs.decimal.whole_step.Goals as goal

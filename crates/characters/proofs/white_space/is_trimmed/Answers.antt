@@ -1,5 +1,4 @@
-use Rattle.std.proofs.Common.{rules}
-use Rattle.std.proofs.Common.{tests}
+use Rattle.std.proofs.Common.{rules, tests}
 use Rattle.characters.proofs.white_space.is_trimmed.Goals as goal
 
 pub returns-in-Point : goal.returns-in-Point

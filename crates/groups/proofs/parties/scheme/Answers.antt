@@ -1,5 +1,4 @@
-use Rattle.std.proofs.Common.{rules}
-use Rattle.std.proofs.Common.{tests}
+use Rattle.std.proofs.Common.{rules, tests}
 use Rattle.groups.specs.Groups.{scheme_of}
 use Rattle.text.specs.Utf8.{bytes, encode}
 use Rattle.groups.proofs.parties.scheme.Goals as goal

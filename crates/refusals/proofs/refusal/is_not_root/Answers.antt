@@ -1,5 +1,4 @@
-use Rattle.std.proofs.Common.{rules}
-use Rattle.std.proofs.Common.{tests}
+use Rattle.std.proofs.Common.{rules, tests}
 use Rattle.refusals.specs.Refusals.{not_root}
 use Rattle.refusals.proofs.refusal.is_not_root.Goals as goal
 

@@ -1,5 +1,4 @@
-use Rattle.std.proofs.Common.{rules}
-use Rattle.std.proofs.Common.{tests}
+use Rattle.std.proofs.Common.{rules, tests}
 use Rattle.refusals.specs.Verdicts.{unsound}
 use Rattle.refusals.proofs.refusal.is_unsound.Goals as goal
 

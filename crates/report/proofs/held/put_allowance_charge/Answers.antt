@@ -1,5 +1,4 @@
-use Rattle.std.proofs.Common.{rules}
-use Rattle.std.proofs.Common.{tests}
+use Rattle.std.proofs.Common.{rules, tests}
 use Rattle.report.proofs.held.put_allowance_charge.Goals as goal
 
 pub returns : goal.returns

@@ -1,5 +1,4 @@
-use Rattle.std.proofs.Common.{rules}
-use Rattle.std.proofs.Common.{tests}
+use Rattle.std.proofs.Common.{rules, tests}
 use Rattle.report.specs.Encoding.{held_row}
 use Rattle.report.proofs.held.put_vat.Goals as goal
 

@@ -1,5 +1,4 @@
-use Rattle.std.proofs.Common.{rules}
-use Rattle.std.proofs.Common.{tests}
+use Rattle.std.proofs.Common.{rules, tests}
 use Rattle.table.specs.Table.{kin}
 use Rattle.table.proofs.record.is_kin.Goals as goal
 
