@@ -1,19 +1,10 @@
 use mathlib.Core.Path.{◌∙◌}
-use borrow.Author.Rules.{rules}
 use lib.ListN.{take}
 use Rattle.text.specs.Place.{all_names, names_in, meant}
 use Rattle.text.specs.Utf8.{bytes, encode}
 use Rattle.text.proofs.Places.{meant_at, meant_none}
 use Rattle.settlement.specs.Kinds.{kinds, kind_named}
 use Rattle.kinds.proofs.child.kind_named.Goals as goal
-
-pub place_of-requires : goal.place_of-requires
-unfolding kinds kind_named meant all_names names_in bytes encode
-place_of-requires c = search rules
-
-pub other_kind-requires : goal.other_kind-requires
-unfolding kinds kind_named meant all_names names_in bytes encode
-other_kind-requires c = search rules
 
 pub returns-in-0 : goal.returns-in-0
 unfolding kinds kind_named meant all_names names_in bytes encode

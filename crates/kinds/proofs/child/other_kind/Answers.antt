@@ -1,14 +1,9 @@
-use borrow.Author.Rules.{rules}
 use lib.ListN.{drop}
 use Rattle.text.specs.Place.{all_names, names_in}
 use Rattle.text.specs.Utf8.{bytes, encode}
 use Rattle.text.proofs.Places.{meant_at, meant_none}
 use Rattle.settlement.specs.Kinds.{kinds}
 use Rattle.kinds.proofs.child.other_kind.Goals as goal
-
-pub place_of-requires : goal.place_of-requires
-unfolding kinds all_names names_in bytes encode
-place_of-requires c = search rules
 
 pub returns-in-0 : goal.returns-in-0
 unfolding kinds all_names names_in bytes encode

@@ -1,13 +1,8 @@
-use borrow.Author.Rules.{rules}
 use Rattle.text.specs.Place.{all_names, names_in}
 use Rattle.text.specs.Utf8.{bytes, encode}
 use Rattle.text.proofs.Places.{meant_at, meant_none}
 use Rattle.settlement.specs.Summation.{sums}
 use Rattle.totals.proofs.sum.sum_named.Goals as goal
-
-pub place_of-requires : goal.place_of-requires
-unfolding sums all_names names_in bytes encode
-place_of-requires c = search rules
 
 pub returns-in-0 : goal.returns-in-0
 unfolding sums all_names names_in bytes encode
