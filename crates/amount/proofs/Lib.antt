@@ -4,3 +4,4 @@ pub mod Meaning
 pub mod Spelling
 pub mod Pieces
 pub mod Examples
+pub mod Errors

@@ -15,18 +15,19 @@ use Rattle.text.specs.Digits.{digit, all_digits, number}
 use Rattle.text.proofs.Bools.{both, nested}
 use Rattle.text.proofs.Digits.{number_append, all_append, number_below}
 use Rattle.characters.specs.Trim.{trim_of}
-use Rattle.amount.specs.declared.amount.ParsedAmount.{ParsedAmount}
-use Rattle.amount.specs.declared.amount.ParsedAmount.TheVariants as Parsed
+use Rattle.amount.specs.declared.amount.AmountError.{AmountError}
+use Rattle.amount.specs.declared.amount.InvoiceAmount.{InvoiceAmount}
 use Rattle.amount.specs.declared.decimal.Walk.{Walk}
 use Rattle.amount.specs.declared.decimal.Walk.TheVariants.{Nothing, Whole, Fraction, Malformed}
-use Rattle.amount.specs.declared.numeric.ParsedPercentage.{ParsedPercentage}
-use Rattle.amount.specs.declared.numeric.ParsedPercentage.TheVariants as Rated
+use Rattle.amount.specs.declared.numeric.PercentageError.{PercentageError}
+use Rattle.amount.specs.declared.numeric.Percentage.{Percentage}
 use Rattle.amount.specs.Decimal.{empty, negative, unsigned, digits_of, past_digits, pointed, past_point, whole, fraction, decimal, signed}
 use Rattle.amount.specs.Amount.{hundredths, in_range, amount_of, parsed_amount}
 use Rattle.amount.specs.Percentage.{percentage_of, parsed_percentage}
 use Rattle.amount.specs.Answers.{amount_answer, percentage_answer}
 use Rattle.amount.specs.Walk.{cap, sat, whole_step, fraction_step, start_step, run, ranged, padded, rated, counted, end_of, finish_of, rate_of}
 use Rattle.amount.proofs.Walks.{run_malformed}
+use Rattle.std.specs.Prelude.{Result, Err}
 
 -- counts and sizes that stop
 sat_up : (K : ℕ) → sat (sat K + 1) ≡ sat (K + 1)
@@ -162,10 +163,10 @@ module _ {A : Type 0} (e b : A) (made : Bool → ℕ → ℕ → ℕ → A) wher
 -- the walk over all of a text ends in its amount
 pub finish_run : (t : List ℕ) → amount_answer (finish_of (run Nothing t)) ≡ amount_of t
 unfolding parts amount_of hundredths verdict
-finish_run t = rw (end_run Parsed.Empty Parsed.Malformed (λ g k m p. padded g m p) t) (go (empty t) (decimal t))
+finish_run t = rw (end_run (Err AmountError.Empty) (Err AmountError.Malformed) (λ g k m p. padded g m p) t) (go (empty t) (decimal t))
   where
     go : (e d : Bool) →
-        amount_answer (cond e Parsed.Empty (cond d (padded (negative t) (cap (number 0 (whole t ++ fraction t))) (sat (length (fraction t)))) Parsed.Malformed)) ≡
+        amount_answer (cond e (Err AmountError.Empty) (cond d (padded (negative t) (cap (number 0 (whole t ++ fraction t))) (sat (length (fraction t)))) (Err AmountError.Malformed))) ≡
         cond e silent (cond d (cond (leb (length (fraction t)) 2) (verdict (hundredths t)) (says 4)) (says 3))
     go true d = refl
     go false true = rw (number_append (whole t) 0 (fraction t), number_append (whole t) 0 (take 2 (fraction t ++ 48 ∷ 48 ∷ []))) (padded_is (negative t) (fraction t) (number 0 (whole t)))
@@ -201,7 +202,7 @@ rated_is g s p e l =
           rw (c, q, le-ltb 18 (sat (length s)) (omega arith), le-leb (length s) 18 (omega arith), lt-ltb (number 0 s) 1000000000000000000 b)
     ]
 
-rated_or : (t : List ℕ) (d : Bool) → decimal t ≡ d → percentage_answer (cond d (parts Rated.Malformed Rated.Malformed rated (negative t) (whole t) (fraction t)) Rated.Malformed) ≡ percentage_of t
+rated_or : (t : List ℕ) (d : Bool) → decimal t ≡ d → percentage_answer (cond d (parts (Err PercentageError.Malformed) (Err PercentageError.Malformed) rated (negative t) (whole t) (fraction t)) (Err PercentageError.Malformed)) ≡ percentage_of t
 unfolding parts percentage_of decimal whole fraction
 rated_or t true e =
     let R = past_digits (unsigned t) in
@@ -214,14 +215,14 @@ rated_or t false e = rw e
 pub rate_run : (t : List ℕ) → percentage_answer (rate_of (run Nothing t)) ≡ percentage_of t
 unfolding run percentage_of decimal fraction whole unsigned past_digits digits_of past_point pointed all_digits
 rate_run [] = refl
-rate_run (b ∷ s) = let t = b ∷ s in ap percentage_answer (end_run Rated.Malformed Rated.Malformed rated t) ∙ rated_or t (decimal t) refl
+rate_run (b ∷ s) = let t = b ∷ s in ap percentage_answer (end_run (Err PercentageError.Malformed) (Err PercentageError.Malformed) rated t) ∙ rated_or t (decimal t) refl
 
 -- the code of `parse_trimmed`, in its own terms: w is the walk over s, r its end
 module _ (s : List ℕ) (w : Walk) (ew : w ≡ run Nothing s) where
-  pub amount_read : (r : ParsedAmount) → r ≡ finish_of w → amount_answer r ≡ amount_of s
+  pub amount_read : (r : Result InvoiceAmount AmountError) → r ≡ finish_of w → amount_answer r ≡ amount_of s
   amount_read r e = ap amount_answer e ∙ rw ew (finish_run s)
 
-  pub percentage_read : (r : ParsedPercentage) → r ≡ rate_of w → percentage_answer r ≡ percentage_of s
+  pub percentage_read : (r : Result Percentage PercentageError) → r ≡ rate_of w → percentage_answer r ≡ percentage_of s
   percentage_read r e = ap percentage_answer e ∙ rw ew (rate_run s)
 
 -- the code of `parse`: t is what trimming left

@@ -7,8 +7,10 @@ use native.Mathlib.Omega.{arith}
 use lib.Dec.{eqb}
 use lib.ListN.{take, drop, take-append-drop}
 use Rattle.text.specs.Digits.{digit}
-use Rattle.amount.specs.declared.amount.ParsedAmount.{ParsedAmount}
-use Rattle.amount.specs.declared.numeric.ParsedPercentage.{ParsedPercentage}
+use Rattle.amount.specs.declared.amount.AmountError.{AmountError}
+use Rattle.amount.specs.declared.amount.InvoiceAmount.{InvoiceAmount}
+use Rattle.amount.specs.declared.numeric.PercentageError.{PercentageError}
+use Rattle.amount.specs.declared.numeric.Percentage.{Percentage}
 use Rattle.amount.specs.declared.decimal.Walk.{Walk}
 use Rattle.amount.specs.declared.decimal.Walk.TheVariants.{Nothing, Whole, Fraction, Malformed}
 use Rattle.amount.specs.Amount.{amount_of}
@@ -18,6 +20,7 @@ use Rattle.amount.specs.Walk.{cap, sat, whole_step, fraction_step, start_step, s
 use Rattle.amount.specs.Pieces.{InPieces, none, call, Bounded}
 use Rattle.amount.proofs.Walks.{run_append}
 use Rattle.amount.proofs.Meaning.{amount_read, percentage_read}
+use Rattle.std.specs.Prelude.{Result}
 
 -- the calls end in the state of one walk over all pieces
 pub pieces_run : {w v : Walk} {ss : List (List ℕ)} → InPieces w ss v → v ≡ run w (flatten ss)
@@ -27,10 +30,10 @@ pieces_run (call w u v s ss e c) = pieces_run c ∙ ap (λ (x : Walk). run x (fl
 
 -- so what `finish` makes of that state is the amount, and the percentage, of the whole text
 module _ {ss : List (List ℕ)} {v : Walk} (c : InPieces Nothing ss v) where
-  pub pieces_amount : (r : ParsedAmount) → r ≡ finish_of v → amount_answer r ≡ amount_of (flatten ss)
+  pub pieces_amount : (r : Result InvoiceAmount AmountError) → r ≡ finish_of v → amount_answer r ≡ amount_of (flatten ss)
   pieces_amount = amount_read (flatten ss) v (pieces_run c)
 
-  pub pieces_percentage : (r : ParsedPercentage) → r ≡ rate_of v → percentage_answer r ≡ percentage_of (flatten ss)
+  pub pieces_percentage : (r : Result Percentage PercentageError) → r ≡ rate_of v → percentage_answer r ≡ percentage_of (flatten ss)
   pieces_percentage = percentage_read (flatten ss) v (pieces_run c)
 
 -- a text that is cut at k: a call on the front, and one on the rest
@@ -42,10 +45,10 @@ module _ (t : List ℕ) (k : ℕ) (w v : Walk) (front : w ≡ run Nothing (take 
   unfolding flatten
   joined = rw (append-nil (drop k t)) (take-append-drop k t)
 
-  pub cut_amount : (r : ParsedAmount) → r ≡ finish_of v → amount_answer r ≡ amount_of t
+  pub cut_amount : (r : Result InvoiceAmount AmountError) → r ≡ finish_of v → amount_answer r ≡ amount_of t
   cut_amount r e = pieces_amount calls r e ∙ ap amount_of joined
 
-  pub cut_percentage : (r : ParsedPercentage) → r ≡ rate_of v → percentage_answer r ≡ percentage_of t
+  pub cut_percentage : (r : Result Percentage PercentageError) → r ≡ rate_of v → percentage_answer r ≡ percentage_of t
   cut_percentage r e = pieces_percentage calls r e ∙ ap percentage_of joined
 
 -- such calls there are for all pieces, from every state

@@ -3,7 +3,7 @@
 // the bytes before (specs/Pieces.antt). docs/ARCHITECTURE.md has the states as a table.
 ghost use Rattle.std.specs.Prelude.{◌≡◌, ◌+◌, ◌*◌, ◌-◌, true};
 ghost use Rattle.text.specs.Digits.{digit};
-ghost use Rattle.amount.specs.Walk.{cap, sat, malformed, start_step, whole_step, fraction_step, step_of, run};
+ghost use Rattle.amount.specs.Walk.{cap, sat, with_digits, decimal_at, start_step, whole_step, fraction_step, step_of, run};
 
 // What has been read so far. Counts stop at 19 and sizes at 2^63 + 1.
 #[derive(Clone, Copy)]
@@ -18,32 +18,59 @@ pub(crate) enum Walk {
     Malformed,
 }
 
+// A decimal that was read whole: whether below zero, how many digits, the number that they write, and how
+// many of them are decimals.
+#[derive(Clone, Copy)]
+pub(crate) struct Decimal {
+    pub(crate) negative: bool,
+    pub(crate) digits: u32,
+    pub(crate) size: u64,
+    pub(crate) decimals: u32,
+}
+
+// A decimal of a sign, digits, a size and decimals, if it has a digit.
+#[tactic(auto, unfolding(crate::specs::Walk::with_digits))]
+fn with_digits(negative: bool, digits: u32, size: u64, decimals: u32) -> Option<Decimal>
+    ensures { result ≡ with_digits negative digits size decimals }
+{
+    if digits == 0 {
+        return None;
+    }
+    Some(Decimal {
+        negative,
+        digits,
+        size,
+        decimals,
+    })
+}
+
+impl Walk {
+    // The decimal that was read: at least one digit, and no byte out of place.
+    pub(crate) fn decimal(self) -> Option<Decimal>
+        ensures { result ≡ decimal_at self }
+    {
+        match self {
+            Walk::Nothing | Walk::Malformed => None,
+            Walk::Whole(negative, digits, size) => with_digits(negative, digits, size, 0),
+            Walk::Fraction(negative, digits, size, decimals) => {
+                with_digits(negative, digits, size, decimals)
+            }
+        }
+    }
+}
+
 // The walk over s, taken up from a state. What is malformed stays so, and the rest is not looked at.
 pub(crate) fn walk_on(s: &[u8], from: Walk) -> Walk
     ensures { result ≡ run from s.now }
 {
     let mut w = from;
-    let mut i = 0;
-    while i < s.len() {
-        w = step(w, s[i]);
-        if is_malformed(w) {
+    for &b in s {
+        w = step(w, b);
+        if let Walk::Malformed = w {
             return w;
         }
-        i += 1;
     }
     w
-}
-
-// Whether a byte was out of place.
-fn is_malformed(w: Walk) -> bool
-    ensures { result ≡ malformed w }
-{
-    match w {
-        Walk::Nothing => false,
-        Walk::Whole(_, _, _) => false,
-        Walk::Fraction(_, _, _, _) => false,
-        Walk::Malformed => true,
-    }
 }
 
 // The walk after one byte more.
@@ -61,18 +88,15 @@ fn step(w: Walk, b: u8) -> Walk
 }
 
 // The first byte: a sign, or a byte of the whole part.
+#[tactic(auto, unfolding(crate::specs::Walk::start_step))]
 fn start_step(b: u8) -> Walk
     ensures { result ≡ start_step b }
 {
-    let minus = b == b'-';
-    if minus {
-        return Walk::Whole(true, 0, 0);
+    match b {
+        b'-' => Walk::Whole(true, 0, 0),
+        b'+' => Walk::Whole(false, 0, 0),
+        _ => whole_step(false, 0, 0, b),
     }
-    let plus = b == b'+';
-    if plus {
-        return Walk::Whole(false, 0, 0);
-    }
-    whole_step(false, 0, 0, b)
 }
 
 // A byte more of the whole part: a digit, or the point.
@@ -82,8 +106,7 @@ fn whole_step(negative: bool, digits: u32, size: u64, b: u8) -> Walk
     if text::is_digit(b) {
         return Walk::Whole(negative, count_up(digits), push_digit(size, b));
     }
-    let point = b == b'.';
-    if point {
+    if b == b'.' {
         return Walk::Fraction(negative, digits, size, 0);
     }
     Walk::Malformed
@@ -117,15 +140,8 @@ pub(crate) fn push_digit(m: u64, b: u8) -> u64
     ensures { result ≡ cap (10 * m + (b - 48)) }
 {
     if m <= 922337203685477580 {
-        m * 10 + wide(b - 48)
+        m * 10 + u64::from(b - 48)
     } else {
         9223372036854775809
     }
-}
-
-// A byte as a size.
-fn wide(x: u8) -> u64
-    ensures { result ≡ x }
-{
-    x as u64
 }

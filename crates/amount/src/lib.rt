@@ -10,5 +10,5 @@ mod decimal;
 mod numeric;
 mod signed;
 
-pub use amount::{InvoiceAmount, ParsedAmount};
-pub use numeric::{ParsedPercentage, Percentage};
+pub use amount::{AmountError, InvoiceAmount};
+pub use numeric::{Percentage, PercentageError};

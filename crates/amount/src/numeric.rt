@@ -3,22 +3,21 @@ ghost use Rattle.std.specs.Prelude.{◌≡◌, ◌<◌};
 ghost use Rattle.amount.specs.Decimal.{signed};
 ghost use Rattle.amount.specs.Percentage.{percentage_of, parsed_percentage};
 ghost use Rattle.amount.specs.Answers.{percentage_answer};
-ghost use Rattle.amount.specs.Walk.{rated, counted, rate_of};
+ghost use Rattle.amount.specs.Walk.{rated, rate_of};
 
-use crate::decimal::{Walk, walk_on};
+use crate::decimal::{Decimal, Walk, walk_on};
 use crate::signed::{negated, to_i64};
 
 // unscaled / 10^scale per cent.
-#[derive(Clone, Copy)]
+#[derive(Clone, Copy, Debug, PartialEq, Eq)]
 pub struct Percentage {
     unscaled: i64,
     scale: u32,
 }
 
-// What reading a percentage answers.
-#[derive(Clone, Copy)]
-pub enum ParsedPercentage {
-    Percentage(Percentage),
+// Why a text is no percentage.
+#[derive(Clone, Copy, Debug, PartialEq, Eq)]
+pub enum PercentageError {
     Malformed,
     TooPrecise,
 }
@@ -34,50 +33,42 @@ fn with_sign(negative: bool, size: u64) -> i64
     to_i64(size)
 }
 
-// The end of a walk that met no byte out of place: one digit at least and 18 at most.
-fn ended(negative: bool, digits: u32, size: u64, decimals: u32) -> ParsedPercentage
-    ensures { result ≡ counted ParsedPercentage.Malformed digits (rated negative digits size decimals) }
+// The percentage that a decimal is, which has 18 digits at most.
+fn rated(d: Decimal) -> Result<Percentage, PercentageError>
+    ensures { result ≡ rated d.negative d.digits d.size d.decimals }
 {
-    let none = digits == 0;
-    if none {
-        return ParsedPercentage::Malformed;
+    if 18 < d.digits {
+        return Err(PercentageError::TooPrecise);
     }
-    let long = 18 < digits;
-    if long {
-        return ParsedPercentage::TooPrecise;
-    }
-    if size < 1000000000000000000 {
-        let unscaled = with_sign(negative, size);
-        return ParsedPercentage::Percentage(Percentage {
-            unscaled,
-            scale: decimals,
+    if d.size < 1000000000000000000 {
+        return Ok(Percentage {
+            unscaled: with_sign(d.negative, d.size),
+            scale: d.decimals,
         });
     }
-    ParsedPercentage::TooPrecise
+    Err(PercentageError::TooPrecise)
 }
 
 // The end of a walk, as a percentage.
-fn finish(w: Walk) -> ParsedPercentage
+fn finish(w: Walk) -> Result<Percentage, PercentageError>
     ensures { result ≡ rate_of w }
 {
-    match w {
-        Walk::Nothing => ParsedPercentage::Malformed,
-        Walk::Whole(negative, digits, size) => ended(negative, digits, size, 0),
-        Walk::Fraction(negative, digits, size, decimals) => ended(negative, digits, size, decimals),
-        Walk::Malformed => ParsedPercentage::Malformed,
+    match w.decimal() {
+        None => Err(PercentageError::Malformed),
+        Some(d) => rated(d),
     }
 }
 
 impl Percentage {
     // The percentage that s writes as it stands, for a text that is trimmed already.
-    pub fn parse_trimmed(s: &[u8]) -> ParsedPercentage
+    pub fn parse_trimmed(s: &[u8]) -> Result<Percentage, PercentageError>
         ensures { percentage_answer result ≡ percentage_of s.now }
     {
         finish(walk_on(s, Walk::Nothing))
     }
 
     // The percentage that s, trimmed in a mode, writes.
-    pub fn parse(s: &[u8], mode: u32) -> ParsedPercentage
+    pub fn parse(s: &[u8], mode: u32) -> Result<Percentage, PercentageError>
         ensures { percentage_answer result ≡ parsed_percentage mode s.now }
     {
         Percentage::parse_trimmed(characters::trimmed_text(s, mode))

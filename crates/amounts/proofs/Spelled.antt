@@ -19,6 +19,7 @@ use Rattle.element.specs.LinkDoc.{link_doc}
 use Rattle.element.proofs.Documents.{own_shown, own_is}
 use Rattle.values.specs.Sites.{site_of, answered_at}
 use Rattle.values.specs.Told.{Told}
+use Rattle.values.specs.declared.saying.Entries.{Entries}
 use Rattle.amounts.specs.Amounts.{amount_at, amount_in, amount_beside, amount_found, missing_amount, required_found, Wanted}
 use Rattle.amounts.specs.declared.amounts.Required.{Required}
 
@@ -60,6 +61,6 @@ module _ (t x l : List ℕ) (n : ℕ) (w : List ℕ) where
 
   -- a required amount, by what it was asked by
   pub required_told :
-      {q : Required} {r : Rule} {p : Path} {s : Site} {o : Option ℕ} {l₀ l₁ : List ℤ} {at a : ℕ} {v : ℤ} (L : Lent) → Wanted q r p s → o ≡ kid (link_doc t x l) n w → Told (required_found L (link_doc t x l) q o) l₀ at v l₁ a →
-      Told (required_amount L (link_doc t x l) r p s n w) l₀ at v l₁ a
+      {q : Required} {r : Rule} {p : Path} {s : Site} {o : Option ℕ} {a b : Entries} {v : ℤ} (L : Lent) → Wanted q r p s → o ≡ kid (link_doc t x l) n w → Told (required_found L (link_doc t x l) q o) a v b →
+      Told (required_amount L (link_doc t x l) r p s n w) a v b
   required_told {q} L h e told = rw (← h.rule, ← h.group, ← h.site, ← required_kid L q e) told

@@ -4,7 +4,6 @@ use Rattle.std.proofs.Math.Option.{Option, none, some}
 use Rattle.text.specs.Utf8.{bytes}
 use Rattle.amount.specs.Amount as Money
 use Rattle.codes.specs.declared.rules.Rule.{Rule}
-use Rattle.names.specs.declared.message.Message.{Message}
 use Rattle.names.specs.declared.path.Path.{Path}
 use Rattle.report.specs.Rows.{Place}
 use Rattle.report.specs.Values.{place_of}
@@ -13,20 +12,16 @@ use Rattle.settlement.specs.TableDoc.{shows}
 use Rattle.settlement.specs.Values.{Lent, Site, Says, entry, missing, amount_message, wrong_currency, attribute, text_in, amount_of}
 use Rattle.values.specs.Sites.{site_of, answered_at}
 use Rattle.amounts.specs.declared.amounts.Required.{Required}
-use Rattle.amounts.specs.declared.currencies.Fault.{Fault}
-use Rattle.amounts.specs.declared.currencies.Fault.TheVariants.{Right, Wrong}
-use Rattle.amounts.specs.declared.heard.Heard.{Heard}
+use Rattle.amounts.specs.declared.heard.Fault.{Fault}
+use Rattle.amount.specs.declared.amount.InvoiceAmount.{InvoiceAmount}
+use Rattle.report.specs.Values as values
+use Rattle.std.specs.declared.option.Option as code
+use Rattle.std.specs.Prelude.{Result, Ok, Err}
 
--- what is wrong with a currencyID, if anything
-abbrev pub fault_of : Fault → Option Message
-fault_of Right = none
-fault_of (Wrong m) = some m
-
--- what was heard, said at a site: nothing, an amount, or an entry about a text
-abbrev pub saying : Heard → Site → Says Place (Option ℤ)
-saying Heard.Nothing s = (none, [])
-saying (Heard.Amount a) s = (some a.0, [])
-saying (Heard.Fault m p) s = (none, entry m s (some (place_of p)) ∷ [])
+-- what was heard, said at a site: an amount, if there is one, or an entry about a text
+abbrev pub saying : Result (code.Option InvoiceAmount) Fault → Site → Says Place (Option ℤ)
+saying (Ok a) s = (values.amount_of a, [])
+saying (Err f) s = (none, entry f.message s (some (place_of f.value)) ∷ [])
 
 -- the amount that a trimmed text spells
 unfoldable pub amount_at : List ℕ → Site → Place → Says Place (Option ℤ)

@@ -4,24 +4,17 @@ ghost use Rattle.report.specs.Values.{amount_of};
 ghost use Rattle.settlement.specs.Document.{or};
 ghost use Rattle.settlement.specs.Summation.{tax_amount};
 ghost use Rattle.table.specs.Table.{found};
-ghost use Rattle.element.specs.LinkDoc.{link_doc};
+ghost use Rattle.element.specs.LinkDoc.{doc_of};
 ghost use Rattle.values.specs.Sites.{site_of, lent_of};
 ghost use Rattle.values.specs.Told.{Told};
 ghost use Rattle.amounts.specs.Amounts.{amount_found, missing_amount, required_found};
 
-use crate::heard::{AmountSaid, answered, hear, hear_text, tell};
+use crate::heard::{hear, hear_text, parsed_or, tell};
 use amount::InvoiceAmount;
 use codes::Rule;
+use element::Document;
 use names::{Message, Path, Term};
-use report::{Amount, Text};
-use values::{Lent, Site, missing};
-
-// A required amount, 0 where it is missing or fails, and where the next entry goes.
-#[derive(Clone, Copy)]
-pub struct RequiredAmount {
-    pub amount: InvoiceAmount,
-    pub at: usize,
-}
+use values::{Entries, Lent, Site};
 
 // A term that must be there: its rule, the path that is said where it is missing, and where it stands.
 #[derive(Clone, Copy)]
@@ -33,99 +26,74 @@ pub struct Required {
 
 // The amount of a child e that was looked for, absent where there is none.
 pub fn amount(
-    table: &[u32],
-    text: &[u8],
-    links: &[u16],
+    doc: &Document,
     mode: u32,
     currency: &[u8],
-    entries: &mut [i64],
-    at: usize,
+    entries: &mut Entries,
     site: Site,
     e: usize,
-) -> AmountSaid
-    ensures { Told (amount_found mode currency.now (link_doc table.now text.now links.now) (site_of site) (found e)) entries.old at (amount_of result.amount) entries.new result.at }
+) -> Option<InvoiceAmount>
+    ensures { Told (amount_found mode currency.now (doc_of doc.now) (site_of site) (found e)) entries.old (amount_of result) entries.new }
 {
     if e == 0 {
-        return AmountSaid {
-            amount: Amount::Absent,
-            at,
-        };
+        return None;
     }
-    let heard = hear(table, text, links, mode, currency, e);
-    tell(entries, at, heard, site)
+    tell(entries, hear(doc, mode, currency, e), site)
 }
 
 // An amount, 0 where it is absent.
-fn or_zero(a: Amount) -> InvoiceAmount
+fn or_zero(a: Option<InvoiceAmount>) -> InvoiceAmount
     ensures { result.0 ≡ or (pos 0) (amount_of a) }
 {
     match a {
-        Amount::Absent => InvoiceAmount::zero(),
-        Amount::Of(x) => x,
+        None => InvoiceAmount::zero(),
+        Some(x) => x,
     }
 }
 
 // What is answered for a required amount that is missing, which is said with the path of its group.
-fn absent(entries: &mut [i64], at: usize, rules: u32, wanted: Required) -> RequiredAmount
-    ensures { Told (missing_amount rules wanted) entries.old at result.amount.0 entries.new result.at }
+fn absent(entries: &mut Entries, rules: u32, wanted: Required) -> InvoiceAmount
+    ensures { Told (missing_amount rules wanted) entries.old result.0 entries.new }
 {
-    let rule = wanted.rule;
-    let group = wanted.group;
-    let site = wanted.site;
-    let site = values::moved(site, group);
-    RequiredAmount {
-        amount: InvoiceAmount::zero(),
-        at: missing(entries, at, rules, rule, site),
-    }
+    let site = values::moved(wanted.site, wanted.group);
+    entries.missing(rules, wanted.rule, site);
+    InvoiceAmount::zero()
 }
 
-// A required amount, of a child e that was looked for.
+// A required amount, of a child e that was looked for: 0 where it is missing or fails.
 pub fn required_amount(
-    table: &[u32],
-    text: &[u8],
-    links: &[u16],
+    doc: &Document,
     lent: Lent,
     currency: &[u8],
-    entries: &mut [i64],
-    at: usize,
+    entries: &mut Entries,
     wanted: Required,
     e: usize,
-) -> RequiredAmount
-    ensures { Told (required_found (lent_of lent currency.now) (link_doc table.now text.now links.now) wanted (found e)) entries.old at result.amount.0 entries.new result.at }
+) -> InvoiceAmount
+    ensures { Told (required_found (lent_of lent currency.now) (doc_of doc.now) wanted (found e)) entries.old result.0 entries.new }
 {
     if e == 0 {
-        return absent(entries, at, lent.rules, wanted);
+        return absent(entries, lent.rules, wanted);
     }
-    let content = element::text_in(table, text, links, lent.mode, e);
-    match content {
-        Text::Absent => absent(entries, at, lent.rules, wanted),
-        Text::At(own) => {
-            let heard = hear_text(table, text, links, currency, e, own);
-            let read = tell(entries, at, heard, wanted.site);
-            let amount = read.amount;
-            RequiredAmount {
-                amount: or_zero(amount),
-                at: read.at,
-            }
+    match doc.text_in(lent.mode, e) {
+        None => absent(entries, lent.rules, wanted),
+        Some(own) => {
+            let heard = hear_text(doc, currency, e, own);
+            or_zero(tell(entries, heard, wanted.site))
         }
     }
 }
 
 // The amount that a tax total spells; anything else is unreadable.
 pub fn tax_amount(
-    table: &[u32],
-    text: &[u8],
-    links: &[u16],
+    doc: &Document,
     mode: u32,
-    entries: &mut [i64],
-    at: usize,
+    entries: &mut Entries,
     e: usize,
-) -> AmountSaid
-    ensures { Told (tax_amount mode (link_doc table.now text.now links.now) e) entries.old at (amount_of result.amount) entries.new result.at }
+) -> Option<InvoiceAmount>
+    ensures { Told (tax_amount mode (doc_of doc.now) e) entries.old (amount_of result) entries.new }
 {
     let site = values::site(Path::SummationTaxTotalAmount, Term::None);
-    let own = element::own_text(table, text, links, mode, e);
-    let answer = InvoiceAmount::parse_trimmed(element::shown(text, own));
-    let heard = answered(answer, Message::TaxTotalUnreadable, own);
-    tell(entries, at, heard, site)
+    let own = doc.own_text(mode, e);
+    let heard = parsed_or(doc, own, Message::TaxTotalUnreadable);
+    tell(entries, heard, site)
 }

@@ -6,7 +6,7 @@ use Prim.Native.Nat.{ℕ, ◌+◌, ◌≤◌, ◌<◌}
 use native.Mathlib.Omega.{arith}
 use native.Mathlib.Nat.{zero-add}
 use native.Mathlib.Numerals.{add-one}
-use lib.ListN.{length, get_or, drop, set, length-set, drop_of_length-le}
+use lib.ListN.{length, get_or, drop, set, drop_of_length-le}
 use lib.Seq.{drop-cons}
 use Rattle.text.specs.Digits.{digit}
 use Rattle.names.specs.Put.{put}
@@ -16,10 +16,9 @@ use Rattle.cases.specs.Numbers.{grown, numbers_from, Listed}
 pub record Listing (s l₀ l : List ℕ) (k n i : ℕ) : Type 0 where
   pub now : put l₀ 0 (numbers_from 0 s) ≡ put l k (numbers_from n (drop i s))
   pub many : length (numbers_from 0 s) ≡ k + length (numbers_from n (drop i s))
-  pub long : length l ≡ length l₀
 
 pub listing_start : (s l : List ℕ) → Listing s l l 0 0 0
-listing_start s l = record { now = refl; many = sym (zero-add (length (numbers_from 0 s))); long = refl }
+listing_start s l = record { now = refl; many = sym (zero-add (length (numbers_from 0 s))) }
 
 -- the numbers from i on: a digit, another byte, the end
 module _ (s : List ℕ) (n i : ℕ) where
@@ -39,13 +38,13 @@ module _ (s l₀ l : List ℕ) (k n i : ℕ) (f : Listing s l₀ l k n i) where
   pub listing_digit : i < length s → (d : Bool) → d ≡ digit (get_or s i 0) → d ≡ true → (m : ℕ) → m ≡ grown n (get_or s i 0) → Listing s l₀ l k m (i + 1)
   listing_digit h d q t m e =
       let z = numbers_digit s n i h d q t m e in
-      record { now = f.now ∙ ap (put l k) z; many = f.many ∙ ap (λ (v : List ℕ). k + length v) z; long = f.long }
+      record { now = f.now ∙ ap (put l k) z; many = f.many ∙ ap (λ (v : List ℕ). k + length v) z }
 
   pub listing_next : i < length s → (d : Bool) → d ≡ digit (get_or s i 0) → d ≡ false → (l' : List ℕ) → l' ≡ set l k n → Listing s l₀ l' (k + 1) 0 (i + 1)
   unfolding put
   listing_next h d q t l' e =
       let z = numbers_next s n i h d q t in
-      record { now = f.now ∙ ap (put l k) z ∙ rw (e, add-one k); many = omega (arith, f.many, ap length z); long = ap length e ∙ length-set l k n ∙ f.long }
+      record { now = f.now ∙ ap (put l k) z ∙ rw (e, add-one k); many = omega (arith, f.many, ap length z) }
 
   pub listing_end : length s ≤ i → (l' : List ℕ) → l' ≡ set l k n → Listed s l₀ l' (k + 1)
   unfolding put

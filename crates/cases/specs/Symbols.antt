@@ -1,5 +1,5 @@
 -- The text of a case: printable ASCII stands for itself, \HH for one byte, and \* for the hole.
-use Rattle.std.specs.Prelude.{◌≡◌, cond, ◌&&◌, List, [], ◌∷◌, map, ℕ, zero, suc, pred, ◌+◌, ◌*◌, ◌-◌, min, ltb, eqb, length, get_or}
+use Rattle.std.specs.Prelude.{◌≡◌, cond, ◌&&◌, List, [], ◌∷◌, map, ℕ, zero, suc, pred, ◌+◌, ◌*◌, ◌-◌, min, ltb, eqb, length, get_or, Option, Some, None}
 use Rattle.text.specs.Range.{within}
 use Rattle.names.specs.Put.{put}
 use Rattle.cases.specs.declared.Symbol.{Symbol}
@@ -11,6 +11,10 @@ nibble b =
     cond (within b 0x30 0x39) (b - 0x30)
     (cond (within b 0x61 0x66) (b - 0x61 + 10)
     (cond (within b 0x41 0x46) (b - 0x41 + 10) 16))
+
+-- the same, with nothing for another byte
+unfoldable pub digit_of : ℕ → Option ℕ
+digit_of b = cond (ltb (nibble b) 16) (Some (nibble b)) None
 
 -- a backslash with what follows it
 unfoldable pub escaped : ℕ → ℕ → Symbol

@@ -1,20 +1,19 @@
 // The parts of a test case as it stands in a line of text: numbers, and texts with escapes and a
-// hole. In a text printable ASCII stands for itself, \HH for one byte, and \* for the hole. And the
-// input that has the lines.
+// hole. In a text printable ASCII stands for itself, \HH for one byte, and \* for the hole.
 //
 // Every function takes all bytes. No public function has a `requires`, and the crate assumes nothing
 // of its own.
 #![tactic(auto)]
 
-mod input;
 mod listing;
+mod places;
 
-ghost use Rattle.std.specs.Prelude.{◌≡◌, ◌+◌, ◌<◌, min, length, get_or, drop, set};
-ghost use Rattle.cases.specs.Symbols.{nibble, escaped, symbol, size, weight, byte_of, holes_of, Filled};
+ghost use Rattle.std.specs.Prelude.{◌≡◌, ◌+◌, min, get_or, set};
+ghost use Rattle.std.specs.Iterator.{YieldsFirst, item_count};
+ghost use Rattle.cases.specs.Symbols.{digit_of, escaped, symbol, symbols, size, weight, byte_of, holes_of, Filled};
 
-pub use input::{find, read_full};
 pub use listing::numbers;
-use text::is_within;
+pub use places::find;
 
 // What stands at the front of a text: a byte and how many bytes write it, the hole, or neither.
 #[derive(Clone, Copy)]
@@ -24,151 +23,139 @@ enum Symbol {
     Bad,
 }
 
-// The value of a hex digit, and 16 for another byte.
-fn nibble_of(b: u8) -> u8
-    ensures { result ≡ nibble b }
+impl Symbol {
+    // How many bytes write it.
+    fn size(self) -> usize
+        ensures { result ≡ size self }
+    {
+        match self {
+            Symbol::Byte(_, n) => n,
+            Symbol::Hole => 2,
+            Symbol::Bad => 1,
+        }
+    }
+
+    // Its byte, and the given one for a hole.
+    fn byte(self, hole: u8) -> u8
+        ensures { result ≡ byte_of hole self }
+    {
+        match self {
+            Symbol::Byte(b, _) => b,
+            Symbol::Hole => hole,
+            Symbol::Bad => 0,
+        }
+    }
+
+    // A hole counts as one, and what is no symbol as two.
+    fn weight(self) -> u32
+        ensures { result ≡ weight self }
+    {
+        match self {
+            Symbol::Byte(_, _) => 0,
+            Symbol::Hole => 1,
+            Symbol::Bad => 2,
+        }
+    }
+}
+
+// The value of a hex digit.
+#[tactic(auto, unfolding(crate::specs::Symbols::digit_of, crate::specs::Symbols::nibble, text::specs::Range::within))]
+fn nibble_of(b: u8) -> Option<u8>
+    ensures { result ≡ digit_of b }
 {
-    let c = b as u32;
-    if is_within(c, 0x30, 0x39) {
-        return b - b'0';
+    match b {
+        b'0'..=b'9' => Some(b - b'0'),
+        b'a'..=b'f' => Some(b - b'a' + 10),
+        b'A'..=b'F' => Some(b - b'A' + 10),
+        _ => None,
     }
-    if is_within(c, 0x61, 0x66) {
-        return b - b'a' + 10;
-    }
-    if is_within(c, 0x41, 0x46) {
-        return b - b'A' + 10;
-    }
-    16
 }
 
 // The byte at i, and past the end 0, which is no digit and in no escape.
 pub fn byte_at(s: &[u8], i: usize) -> u8
     ensures { result ≡ get_or s.now i 0 }
 {
-    if i < s.len() { s[i] } else { 0 }
+    s.get(i).copied().unwrap_or(0)
 }
 
 // What a backslash and two bytes after it write.
+#[tactic(auto, using(crate::proofs::Symbols::digit_some, crate::proofs::Symbols::digit_none), unfolding(crate::specs::Symbols::escaped))]
 fn escape_of(a: u8, b: u8) -> Symbol
     ensures { result ≡ escaped a b }
 {
-    let hole = a == b'*';
-    if hole {
+    if a == b'*' {
         return Symbol::Hole;
     }
-    let high = nibble_of(a);
-    let low = nibble_of(b);
-    if high < 16 {
-        if low < 16 {
-            return Symbol::Byte(high * 16 + low, 3);
-        }
+    match (nibble_of(a), nibble_of(b)) {
+        (Some(high), Some(low)) => Symbol::Byte(high * 16 + low, 3),
+        _ => Symbol::Bad,
     }
-    Symbol::Bad
 }
 
 // What stands at the front of s.
+#[tactic(auto, unfolding(crate::specs::Symbols::symbol, text::specs::Range::within))]
 fn symbol_of(s: &[u8]) -> Symbol
     ensures { result ≡ symbol s.now }
 {
-    let b = byte_at(s, 0);
-    let escape = b == b'\\';
-    if escape {
-        return escape_of(byte_at(s, 1), byte_at(s, 2));
-    }
-    if is_within(b as u32, 0x20, 0x7E) {
-        return Symbol::Byte(b, 1);
-    }
-    Symbol::Bad
-}
-
-// What stands at i.
-fn symbol_at(s: &[u8], i: usize) -> Symbol
-    requires { i < length s.now }
-    ensures { result ≡ symbol (drop i s.now) }
-{
-    symbol_of(&s[i..])
-}
-
-// How many bytes write a symbol.
-fn size_of(x: Symbol) -> usize
-    ensures { result ≡ size x }
-{
-    match x {
-        Symbol::Byte(_, n) => n,
-        Symbol::Hole => 2,
-        Symbol::Bad => 1,
+    match byte_at(s, 0) {
+        b'\\' => escape_of(byte_at(s, 1), byte_at(s, 2)),
+        b @ 0x20..=0x7E => Symbol::Byte(b, 1),
+        _ => Symbol::Bad,
     }
 }
 
-// A symbol's byte, and the given one for a hole.
-fn byte_of(x: Symbol, hole: u8) -> u8
-    ensures { result ≡ byte_of hole x }
-{
-    match x {
-        Symbol::Byte(b, _) => b,
-        Symbol::Hole => hole,
-        Symbol::Bad => 0,
-    }
-}
+// The symbols of a text, of which these bytes are left.
+#[derive(Drop)]
+struct SymbolsOf<'a>(&'a [u8]);
 
-// A hole counts as one, and what is no symbol as two.
-fn weight_of(x: Symbol) -> u32
-    ensures { result ≡ weight x }
-{
-    match x {
-        Symbol::Byte(_, _) => 0,
-        Symbol::Hole => 1,
-        Symbol::Bad => 2,
-    }
-}
+impl<'a> Iterator for SymbolsOf<'a> {
+    type Item = Symbol;
 
-// The sum of two counts, which stops at 2.
-fn add_up(n: u32, more: u32) -> u32
-    ensures { result ≡ min 2 (n + more) }
-{
-    if n == 0 {
-        return if more < 2 { more } else { 2 };
+    ghost next_gives = { YieldsFirst (λ s. symbols 0 s.0.now) };
+
+    ghost remaining = { item_count (λ s. symbols 0 s.0.now) };
+
+    fn next(&mut self) -> Option<Symbol> {
+        if self.0.is_empty() {
+            return None;
+        }
+        let x = symbol_of(self.0);
+        self.0 = &self.0[x.size()..];
+        Some(x)
     }
-    if more == 0 {
-        return if n < 2 { n } else { 2 };
-    }
-    2
 }
 
 // How many holes a text has, and 2 where it has more or is unfit.
+#[tactic(auto, using(crate::proofs::Symbols::holes_first, crate::proofs::Symbols::holes_last))]
 pub fn holes(s: &[u8]) -> u32
     ensures { result ≡ holes_of s.now }
 {
-    let mut n = 0;
-    let mut i = 0;
-    while i < s.len() {
-        let x = symbol_at(s, i);
-        n = add_up(n, weight_of(x));
-        i += size_of(x);
+    let mut n: u32 = 0;
+    for x in SymbolsOf(s) {
+        n = n.saturating_add(x.weight()).min(2);
     }
     n
 }
 
-// Stores a byte where there is room for it.
-fn put(out: &mut [u8], i: usize, b: u8)
-    ensures { out.new ≡ set out.old i b }
+// Stores a value where there is room for it. With `get_mut` the proof does not close: of a slice after it
+// only the length is known.
+pub(crate) fn put<T: Copy>(out: &mut [T], i: usize, x: T)
+    ensures { out.new ≡ set out.old i x }
 {
     if i < out.len() {
-        out[i] = b;
+        out[i] = x;
     }
 }
 
 // Puts the bytes of a text into out, with a byte for the hole, and answers how many there are.
+#[tactic(auto, using(crate::proofs::Symbols::filling_fewer, crate::proofs::Symbols::filling_next, crate::proofs::Symbols::filling_last))]
 pub fn fill(s: &[u8], hole: u8, out: &mut [u8]) -> usize
     ensures { Filled hole s.now out.old out.new result }
 {
     let mut n = 0;
-    let mut i = 0;
-    while i < s.len() {
-        let x = symbol_at(s, i);
-        put(out, n, byte_of(x, hole));
+    for x in SymbolsOf(s) {
+        put(out, n, x.byte(hole));
         n += 1;
-        i += size_of(x);
     }
     n
 }

@@ -10,8 +10,7 @@ use lib.Seq.{take-nil, drop-nil, take-append-add, drop-append-add, get_or-append
 use Rattle.text.specs.Span.{clipped}
 use Rattle.text.specs.Utf8.{encode}
 use Rattle.text.proofs.Bools.{both, not_both}
-use Rattle.characters.specs.declared.utf8.Char.TheVariants.{Point}
-use Rattle.characters.specs.Characters.{is_scalar, all_scalar, encode_all, tail, boundary, front, utf8}
+use Rattle.characters.specs.Characters.{Point, is_scalar, all_scalar, encode_all, tail, boundary, front, utf8}
 use Rattle.characters.proofs.Characters.{Form, one, two_form, three_form, four_form, form_of}
 use Rattle.characters.proofs.Encoding.{front_encode, encoded_utf8, utf8_encoded}
 

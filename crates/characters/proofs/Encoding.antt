@@ -1,22 +1,26 @@
 -- UTF-8 is RFC 3629's encoder turned round: every encoded text is UTF-8 (`encoded_utf8`), and every UTF-8 text is one (`utf8_encoded`).
 use mathlib.Core.Path.{◌≡◌, refl, sym, ◌∙◌, ap}
-use mathlib.Core.Bool.{Bool, true, false, cond, ◌||◌}
+use mathlib.Core.Bool.{Bool, true, false, cond, ◌||◌, ◌&&◌}
 use mathlib.Core.List.{List, [], ◌∷◌, ◌++◌, map}
 use Prim.Native.Nat.{ℕ, zero, suc, ◌+◌, ◌*◌, ◌/◌, ◌%◌, ◌≤◌, ◌<◌}
 use native.Mathlib.Omega.{arith}
 use native.Mathlib.Nat.{zero-add}
 use native.Mathlib.Decide.{dec_le}
-use borrow.Author.Tests.{le-leb, lt-leb}
-use lib.Dec.{leb}
+use borrow.Author.Tests.{le-leb, lt-leb, lt-ltb, le-ltb}
+use lib.Dec.{leb, ltb}
+use denote.Ref.{Bor}
 use lib.ListN.{length, get_or, drop, length-drop, drop_of_length-le}
 use lib.Seq.{drop-cons, drop-drop, drop-append_seam}
+use Rattle.std.proofs.Math.Utf8.{scalar as scalar_code, scalars}
+use Rattle.std.specs.Char.{encode_utf8}
+use Rattle.std.specs.Str.{IsUtf8, encode_utf8_all}
+use Rattle.std.specs.Result.{MatchResult, is_ok}
+use Rattle.std.specs.Prelude.{Result, Ok, Err}
 use Rattle.text.specs.Range.{within}
 use Rattle.text.specs.Utf8.{encode}
 use Rattle.text.proofs.Bools.{both, not_both}
 use Rattle.text.proofs.Ranges.{within_range, within_yes, within_above}
-use Rattle.characters.specs.declared.utf8.Char.{Char}
-use Rattle.characters.specs.declared.utf8.Char.TheVariants.{Bad, Point}
-use Rattle.characters.specs.Characters.{is_scalar, all_scalar, encode_all, tail, scalar, two, three, four, char_of, front, size, chars, all_good, utf8}
+use Rattle.characters.specs.Characters.{Char, Bad, Point, is_scalar, all_scalar, encode_all, tail, scalar, two, three, four, char_of, front, size, chars, all_good, utf8}
 use Rattle.characters.proofs.Characters.{Shortest, Form, one, two_form, three_form, four_form, form_of, tail_range, Whole, front_whole, chars_at, turn_chars, turn}
 
 -- the octets of the table: a first one, and those that follow it
@@ -250,3 +254,38 @@ encoded_from s (suc fuel) i h e =
 pub utf8_encoded : (s : List ℕ) → utf8 s ≡ true → (cs : List ℕ) × (all_scalar cs ≡ true) × (s ≡ encode_all cs)
 unfolding utf8 Encoded
 utf8_encoded s e = encoded_from s (length s) 0 (omega arith) e
+
+-- the library's tests, which are of what is above a limit
+limit : (c n : ℕ) → ltb c (suc n) ≡ leb c n
+limit c n = elim (dec_le c n) [ yes h ↦ lt-ltb c (suc n) (omega arith) ∙ sym (le-leb c n h) | no h ↦ le-ltb c (suc n) (omega arith) ∙ sym (lt-leb c n (omega arith)) ]
+
+scalar_std : (c : ℕ) → scalar_code c ≡ is_scalar c
+unfolding is_scalar within
+scalar_std c = rw (limit c 0xD7FF, limit c 0x10FFFF, le-leb 0 c (omega arith)) (go (leb c 0xD7FF) (leb 0xE000 c && leb c 0x10FFFF))
+  where
+    go : (p q : Bool) → cond p true q ≡ (p || q)
+    go true q = refl
+    go false q = refl
+
+-- the library's encoder is RFC 3629's, and its UTF-8 the same
+encode_std : (c : ℕ) → encode_utf8 c ≡ encode c
+unfolding encode encode_utf8
+encode_std c = rw (limit c 0x7F, limit c 0x7FF, limit c 0xFFFF)
+
+all_std : (cs : List ℕ) → encode_utf8_all cs ≡ encode_all cs
+unfolding encode_all
+all_std [] = refl
+all_std (c ∷ cs) = rw (encode_std c, all_std cs)
+
+scalars_std : (cs : List ℕ) → scalars cs ≡ all_scalar cs
+unfolding all_scalar
+scalars_std [] = refl
+scalars_std (c ∷ cs) = rw (scalar_std c, scalars_std cs)
+
+pub utf8_std : {E : Type 0} (Q : E → Type 0) (s : List ℕ) (r : Result (Bor (List ℕ)) E) → MatchResult r (λ t. (t.now ≡ s) × IsUtf8 s) (λ e. (IsUtf8 s → ⊥) × Q e) → is_ok r ≡ utf8 s
+utf8_std Q s (Ok t) h = let u = h.1 in sym (rw (sym u.1.1 ∙ all_std u.0) (encoded_utf8 u.0 (sym (scalars_std u.0) ∙ u.1.0)))
+utf8_std Q s (Err e) h = go (utf8 s) refl
+  where
+    go : (b : Bool) → utf8 s ≡ b → false ≡ b
+    go true q = let k = utf8_encoded s q in absurd (h.0 (k.0, (scalars_std k.0 ∙ k.1, all_std k.0 ∙ sym k.2)))
+    go false q = refl

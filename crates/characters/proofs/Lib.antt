@@ -3,3 +3,4 @@ pub mod WhiteSpaces
 pub mod Trims
 pub mod Encoding
 pub mod Boundaries
+pub mod Steps

@@ -12,18 +12,22 @@ use Rattle.text.specs.declared.span.Span.{Span}
 use Rattle.text.specs.Span.{cut}
 use Rattle.text.proofs.Bools.{both, not_both}
 use Rattle.text.proofs.Ranges.{within_range}
-use Rattle.characters.specs.declared.utf8.Char.{Char}
-use Rattle.characters.specs.declared.utf8.Char.TheVariants.{Bad, Point}
-use Rattle.characters.specs.declared.trimming.Kept.{Kept}
-use Rattle.characters.specs.Characters.{front, size, chars, good, all_good, utf8}
-use Rattle.characters.specs.WhiteSpace.{trims}
+use Rattle.std.specs.Prelude.{Option, None, Some}
+use Rattle.std.specs.Option.{unwrap_or}
+use Rattle.characters.specs.Characters.{Char, Bad, Point, front, size, chars, good, all_good, utf8}
+use Rattle.characters.specs.WhiteSpace.{white, trims}
 use Rattle.characters.specs.Trim.{all_white, before, through, kept_of, trimmed, trim_of}
-use Rattle.characters.specs.TrimWalk.{nothing, widened, keep, span_of, graphic}
+use Rattle.characters.specs.TrimWalk.{widened, keep, span_of, graphic}
 use Rattle.characters.proofs.WhiteSpaces.{not_white}
 use Rattle.characters.proofs.Characters.{good_from, good_start, good_end, front_one, front_whole, size_at, chars_at, chars_end, turn_chars}
 
 abbrev span : ℕ → ℕ → Span
 span a e = record { start = a; end = e }
+
+-- the place of what is kept, as the code takes it
+kept_place : (k : Option Span) → unwrap_or k (span 0 0) ≡ span_of k
+kept_place None = refl
+kept_place (Some p) = refl
 
 -- nothing is kept of white characters
 white_through : (mode : ℕ) (xs : List Char) → all_white mode xs ≡ true → through mode xs ≡ 0
@@ -32,15 +36,15 @@ white_through mode [] e = refl
 white_through mode (x ∷ xs) e = rw e
 
 -- the pass, once something is kept
-keep_some : (mode : ℕ) (xs : List Char) (a e i : ℕ) → span_of (keep mode (record { any = true; start = a; end = e }) i xs) ≡ cond (all_white mode xs) (span a e) (span a (i + through mode xs))
+keep_some : (mode : ℕ) (xs : List Char) (a e i : ℕ) → span_of (keep mode (Some (span a e)) i xs) ≡ cond (all_white mode xs) (span a e) (span a (i + through mode xs))
 unfolding keep all_white through widened
 keep_some mode [] a e i = refl
 keep_some mode (x ∷ xs) a e i = go (trims mode x) (all_white mode xs) refl (keep_some mode xs a e (i + size x)) (keep_some mode xs a (i + size x) (i + size x))
   where
     go : (w v : Bool) → all_white mode xs ≡ v →
-        span_of (keep mode (record { any = true; start = a; end = e }) (i + size x) xs) ≡ cond v (span a e) (span a (i + size x + through mode xs)) →
-        span_of (keep mode (record { any = true; start = a; end = i + size x }) (i + size x) xs) ≡ cond v (span a (i + size x)) (span a (i + size x + through mode xs)) →
-        span_of (keep mode (cond w (record { any = true; start = a; end = e }) (record { any = true; start = a; end = i + size x })) (i + size x) xs) ≡
+        span_of (keep mode (Some (span a e)) (i + size x) xs) ≡ cond v (span a e) (span a (i + size x + through mode xs)) →
+        span_of (keep mode (Some (span a (i + size x))) (i + size x) xs) ≡ cond v (span a (i + size x)) (span a (i + size x + through mode xs)) →
+        span_of (keep mode (cond w (Some (span a e)) (Some (span a (i + size x)))) (i + size x) xs) ≡
         cond (w && v) (span a e) (span a (i + cond (w && v) 0 (size x + through mode xs)))
     go true true q r r' = r
     go true false q r r' = r ∙ ap (span a) (omega arith)
@@ -48,7 +52,7 @@ keep_some mode (x ∷ xs) a e i = go (trims mode x) (all_white mode xs) refl (ke
     go false false q r r' = r' ∙ ap (span a) (omega arith)
 
 -- the pass, while nothing is kept
-keep_none : (mode : ℕ) (xs : List Char) (i : ℕ) → span_of (keep mode nothing i xs) ≡ cond (all_white mode xs) (span 0 0) (span (i + before mode xs) (i + through mode xs))
+keep_none : (mode : ℕ) (xs : List Char) (i : ℕ) → span_of (keep mode None i xs) ≡ cond (all_white mode xs) (span 0 0) (span (i + before mode xs) (i + through mode xs))
 unfolding keep all_white before through widened
 keep_none mode [] i = refl
 keep_none mode (x ∷ xs) i = go (trims mode x) (all_white mode xs) refl (keep_none mode xs (i + size x)) (keep_some mode xs i (i + size x) (i + size x))
@@ -57,9 +61,9 @@ keep_none mode (x ∷ xs) i = go (trims mode x) (all_white mode xs) refl (keep_n
     two p q = cc
 
     go : (w v : Bool) → all_white mode xs ≡ v →
-        span_of (keep mode nothing (i + size x) xs) ≡ cond v (span 0 0) (span (i + size x + before mode xs) (i + size x + through mode xs)) →
-        span_of (keep mode (record { any = true; start = i; end = i + size x }) (i + size x) xs) ≡ cond v (span i (i + size x)) (span i (i + size x + through mode xs)) →
-        span_of (keep mode (cond w nothing (record { any = true; start = i; end = i + size x })) (i + size x) xs) ≡
+        span_of (keep mode None (i + size x) xs) ≡ cond v (span 0 0) (span (i + size x + before mode xs) (i + size x + through mode xs)) →
+        span_of (keep mode (Some (span i (i + size x))) (i + size x) xs) ≡ cond v (span i (i + size x)) (span i (i + size x + through mode xs)) →
+        span_of (keep mode (cond w None (Some (span i (i + size x)))) (i + size x) xs) ≡
         cond (w && v) (span 0 0) (span (i + cond w (size x + before mode xs) 0) (i + cond (w && v) 0 (size x + through mode xs)))
     go true true q r r' = r
     go true false q r r' = r ∙ two (omega arith) (omega arith)
@@ -67,21 +71,24 @@ keep_none mode (x ∷ xs) i = go (trims mode x) (all_white mode xs) refl (keep_n
     go false false q r r' = r' ∙ two (omega arith) (omega arith)
 
 -- one pass over the characters keeps what the definition keeps
-pub keep_is : (mode : ℕ) (xs : List Char) → span_of (keep mode nothing 0 xs) ≡ kept_of mode xs
+pub keep_is : (mode : ℕ) (xs : List Char) → span_of (keep mode None 0 xs) ≡ kept_of mode xs
 unfolding kept_of
 keep_is mode xs = simp zero-add at (keep_none mode xs 0)
 
 -- the pass from i on, in the loop's terms: x is the character at i, n its size, w whether it is white
-module _ (s : List ℕ) (mode i : ℕ) (k : Kept) (e : keep mode nothing 0 (chars 0 s) ≡ keep mode k i (chars 0 (drop i s))) where
+module _ (s : List ℕ) (mode i : ℕ) (k : Option Span) (e : keep mode None 0 (chars 0 s) ≡ keep mode k i (chars 0 (drop i s))) where
   pub keep_on :
-      i < length s → (x : Char) → x ≡ front (drop i s) → (n : ℕ) → n ≡ size x → (w : Bool) → w ≡ trims mode x → (k' : Kept) → k' ≡ widened k w i (i + n) →
-      keep mode nothing 0 (chars 0 s) ≡ keep mode k' (i + n) (chars 0 (drop (i + n) s))
+      i < length s → (x : Char) → x ≡ front (drop i s) → (c n : ℕ) → x ≡ Point c n → (w : Bool) → w ≡ white mode c → (k' : Option Span) → k' ≡ widened k w i (i + n) →
+      keep mode None 0 (chars 0 s) ≡ keep mode k' (i + n) (chars 0 (drop (i + n) s))
   unfolding keep
-  keep_on h x ex n en w ew k' ek = e ∙ ap (keep mode k i) (turn_chars s i h x ex n en) ∙ rw (ek, ew, en)
+  keep_on h x ex c n q w ew k' ek =
+      let en : n ≡ size x = sym (ap size q) in
+      let et : w ≡ trims mode x = ew ∙ sym (ap (trims mode) q) in
+      e ∙ ap (keep mode k i) (turn_chars s i h x ex n en) ∙ rw (ek, et, en)
 
-  pub keep_end : utf8 s ≡ good_from s i → length s ≤ i → span_of k ≡ trimmed mode s
+  pub keep_end : utf8 s ≡ good_from s i → length s ≤ i → (p : Span) → p ≡ unwrap_or k (span 0 0) → p ≡ trimmed mode s
   unfolding keep trimmed
-  keep_end g h = sym (rw (← good_end s i g h, ← keep_is mode (chars 0 s)) (ap span_of (e ∙ ap (keep mode k i) (chars_end s i h))))
+  keep_end g h p q = q ∙ kept_place k ∙ sym (rw (← good_end s i g h, ← keep_is mode (chars 0 s)) (ap span_of (e ∙ ap (keep mode k i) (chars_end s i h))))
 
 -- bytes that are not UTF-8 stay as they are
 pub not_trimmed : (s : List ℕ) (mode : ℕ) → false ≡ utf8 s → span 0 (length s) ≡ trimmed mode s

@@ -1,9 +1,17 @@
 -- The characters of bytes in UTF-8, from RFC 3629. `encoded_utf8` and `utf8_encoded` (proofs/Encoding.antt) say that this is the RFC's encoder turned round.
-use Rattle.std.specs.Prelude.{Bool, true, false, cond, not, ◌&&◌, ◌||◌, List, [], ◌∷◌, ◌++◌, ℕ, zero, suc, pred, ◌+◌, ◌*◌, ◌%◌, ltb, leb, get_or}
+use Rattle.std.specs.Prelude.{Bool, true, false, cond, not, ◌&&◌, ◌||◌, List, [], ◌∷◌, ◌++◌, ℕ, zero, suc, pred, ◌+◌, ◌*◌, ◌%◌, ltb, leb, get_or, Option, Some, None}
 use Rattle.text.specs.Range.{within}
 use Rattle.text.specs.Utf8.{encode}
-use Rattle.characters.specs.declared.utf8.Char.{Char}
-use Rattle.characters.specs.declared.utf8.Char.TheVariants.{Bad, Point}
+
+-- what stands at the front of bytes: a character's code point and the number of its octets, or what is none
+abbrev pub Char : Type 0
+Char = Option (ℕ × ℕ)
+
+pattern abbrev pub Point : ℕ → ℕ → Char
+Point c n = Some (c, n)
+
+pattern abbrev pub Bad : Char
+Bad = None
 
 -- a character number: 0 to 10FFFF without the surrogates D800 to DFFF (section 3; Unicode, D76)
 unfoldable pub is_scalar : ℕ → Bool

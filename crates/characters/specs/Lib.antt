@@ -1,5 +1,5 @@
 pub mod Characters
-pub mod Utf8Walk
 pub mod WhiteSpace
 pub mod Trim
 pub mod TrimWalk
+pub mod Utf8Walk

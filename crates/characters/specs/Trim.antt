@@ -2,8 +2,7 @@
 use Rattle.std.specs.Prelude.{Bool, true, cond, ◌&&◌, List, [], ◌∷◌, ℕ, ◌+◌, length}
 use Rattle.text.specs.declared.span.Span.{Span}
 use Rattle.text.specs.Span.{cut}
-use Rattle.characters.specs.declared.utf8.Char.{Char}
-use Rattle.characters.specs.Characters.{size, chars, utf8}
+use Rattle.characters.specs.Characters.{Char, size, chars, utf8}
 use Rattle.characters.specs.WhiteSpace.{trims}
 
 -- every character is trimmed

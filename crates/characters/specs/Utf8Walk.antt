@@ -1,4 +1,4 @@
--- The pass over bytes that may be UTF-8, as the code makes it: `step_on` and `step_stop` (proofs/Characters.antt) join it to `utf8`.
+-- A pass over bytes that may be UTF-8 in steps, ASCII sixteen octets at once: `step_on` and `step_stop` (proofs/Steps.antt) join it to `utf8`.
 use Rattle.std.specs.Prelude.{Bool, cond, ◌&&◌, List, ℕ, ◌-◌, ◌%◌, leb, eqb, length, take, drop}
 use Rattle.characters.specs.Characters.{front, size, good, ascii}
 

@@ -1,8 +1,7 @@
 -- White space, and what each mode trims.
+use Rattle.characters.specs.Characters.{Char, Bad, Point}
 use Rattle.std.specs.Prelude.{Bool, false, cond, ◌||◌, List, [], ◌∷◌, ℕ, eqb}
 use Rattle.text.specs.Range.{within}
-use Rattle.characters.specs.declared.utf8.Char.{Char}
-use Rattle.characters.specs.declared.utf8.Char.TheVariants.{Bad, Point}
 
 -- c is in one of the ranges
 unfoldable pub in_ranges : ℕ → List (ℕ × ℕ) → Bool

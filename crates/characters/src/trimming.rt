@@ -3,74 +3,55 @@ ghost use Rattle.std.specs.Prelude.{◌≡◌};
 ghost use Rattle.characters.specs.Trim.{trimmed, trim_of};
 ghost use Rattle.characters.specs.TrimWalk.{widened, graphic};
 
-use crate::utf8::{char_at, is_good, size_of};
-use crate::white_space::is_trimmed;
+use crate::utf8::char_at;
+use crate::white_space::is_white;
 use text::Span;
 
-// What is kept of the characters passed: whether there is any, and from where to where.
-#[derive(Clone, Copy)]
-struct Kept {
-    any: bool,
-    start: usize,
-    end: usize,
-}
-
-// What is kept after one character more, from i up to end, which is white or not.
-fn widen(k: Kept, white: bool, i: usize, end: usize) -> Kept
-    ensures { result ≡ widened k white i end }
+// The place of what is kept of the characters passed, after one more, from i up to end, which is white
+// or not.
+#[tactic(auto, unfolding(crate::specs::TrimWalk::widened))]
+fn widen(kept: Option<Span>, white: bool, i: usize, end: usize) -> Option<Span>
+    ensures { result ≡ widened kept white i end }
 {
     if white {
-        return k;
+        return kept;
     }
-    let any = k.any;
-    if any {
-        return Kept {
-            any: true,
+    match kept {
+        Some(k) => Some(Span {
             start: k.start,
             end,
-        };
-    }
-    Kept {
-        any: true,
-        start: i,
-        end,
+        }),
+        None => Some(Span { start: i, end }),
     }
 }
 
-// One pass over the characters; the first that is none leaves s as it is.
+// One pass over the characters; the first that is none leaves s as it is. By hand, for the library's
+// characters are those of a text that a pass before has shown to be UTF-8.
 fn trim_each(s: &[u8], mode: u32) -> Span
     ensures { result ≡ trimmed mode s.now }
 {
-    let mut kept = Kept {
-        any: false,
-        start: 0,
-        end: 0,
-    };
+    let mut kept = None;
     let mut i = 0;
     while i < s.len() {
-        let x = char_at(s, i);
-        if is_good(x) {
-            let end = i + size_of(x);
-            kept = widen(kept, is_trimmed(mode, x), i, end);
-            i = end;
-        } else {
+        let Some((c, n)) = char_at(s, i) else {
             return Span {
                 start: 0,
                 end: s.len(),
             };
-        }
+        };
+        let end = i + n;
+        kept = widen(kept, is_white(mode, c), i, end);
+        i = end;
     }
-    Span {
-        start: kept.start,
-        end: kept.end,
-    }
+    kept.unwrap_or(Span { start: 0, end: 0 })
 }
 
 // Whether b is a character of ASCII that no mode trims.
+#[tactic(auto, unfolding(crate::specs::TrimWalk::graphic, text::specs::Range::within))]
 fn is_graphic(b: u8) -> bool
     ensures { result ≡ graphic b }
 {
-    text::is_within(b as u32, 0x21, 0x7F)
+    matches!(b, 0x21..=0x7F)
 }
 
 // The place of what is left of s after trimming in a mode, and 0, 0 where nothing is. Bytes that
@@ -79,12 +60,8 @@ pub fn trim(s: &[u8], mode: u32) -> Span
     ensures { result ≡ trimmed mode s.now }
 {
     let n = s.len();
-    if 0 < n {
-        if is_graphic(s[0]) {
-            if is_graphic(s[n - 1]) {
-                return Span { start: 0, end: n };
-            }
-        }
+    if n > 0 && is_graphic(s[0]) && is_graphic(s[n - 1]) {
+        return Span { start: 0, end: n };
     }
     trim_each(s, mode)
 }
@@ -94,7 +71,5 @@ pub fn trimmed_text(s: &[u8], mode: u32) -> &[u8]
     ensures { result.now ≡ trim_of mode s.now }
 {
     let t = trim(s, mode);
-    let start = t.start;
-    let end = t.end;
-    &s[start..end]
+    &s[t.start..t.end]
 }

@@ -4,12 +4,12 @@ use mathlib.Core.Bool.{Bool, true, false, cond}
 use mathlib.Core.List.{[], ◌∷◌}
 use mathlib.Core.Option.{Option, none, some}
 use Prim.Native.Nat.{ℕ}
-use Rattle.report.specs.Rows.{Place, AllowanceCharge, charge}
+use Rattle.report.specs.Rows.{Place, AllowanceCharge, charge, held_as}
 use Rattle.settlement.specs.Document.{Doc, maybe}
 use Rattle.settlement.specs.Shapes.{Counts, Act}
 use Rattle.settlement.specs.Tax.{counted, allowance_charge_of, allowance_or_charge, logistics, logistics_read, logistics_left}
 use Rattle.settlement.specs.Values.{Lent, Says}
-use Rattle.charges.specs.Charges.{held_as, row_says, allowance_charge_says, logistics_row, logistics_says}
+use Rattle.charges.specs.Charges.{row_says, allowance_charge_says, logistics_row, logistics_says}
 
 module _ (L : Lent) (D : Doc ℕ Place) (s : Counts) (n : ℕ) where
   -- it says what the definition says

@@ -2,7 +2,7 @@
 use mathlib.Core.Path.{◌≡◌, refl, ap}
 use mathlib.Core.Bool.{Bool, true, cond}
 use mathlib.Core.List.{List}
-use mathlib.Core.Option.{Option, none, some}
+use mathlib.Core.Option.{Option, none}
 use Prim.Native.Nat.{ℕ}
 use lib.IntN.{ℤ}
 use Rattle.text.specs.Utf8.{bytes}
@@ -13,9 +13,10 @@ use Rattle.settlement.specs.Tax.{TaxPaths, GroupTerms, group_terms, is_charge, c
 use Rattle.settlement.specs.Values.{Lent, kid, kid_text}
 use Rattle.element.specs.LinkDoc.{link_doc}
 use Rattle.values.specs.Told.{Told}
-use Rattle.values.proofs.Telling.{said_then, told_as}
+use Rattle.values.specs.declared.saying.Entries.{Entries}
+use Rattle.values.proofs.Telling.{said_then}
 use Rattle.groups.proofs.Made.{pair_made}
-use Rattle.charges.specs.Charges.{no_category, category_found, category_trade_tax, actual_amount, basis_amount, calculation_percent, row_says, allowance_charge_says, applied_trade_tax, applied_amount, logistics_row, logistics_says}
+use Rattle.charges.specs.Charges.{no_category, category_found, category_trade_tax, actual_amount, basis_amount, calculation_percent, row_says, allowance_charge_says, applied_trade_tax, applied_amount, logistics_row}
 
 -- a row that was made of values that are the same
 pub row_made :
@@ -30,12 +31,12 @@ pub category_kid : (t x l : List ℕ) (n : ℕ) (w : List ℕ) {o : Option ℕ} 
 unfolding category_found no_category category_of
 category_kid t x l n w L p q g e = rw e
 
-module _ (L : Lent) (D : Doc ℕ Place) {l l₁ l₂ : List ℤ} {at a b : ℕ} {k : Place} {q : Option (ℤ × ℕ)} {z : ℤ} {x : Option Place} where
+module _ (L : Lent) (D : Doc ℕ Place) {e₀ e₁ e₂ : Entries} {k : Place} {q : Option (ℤ × ℕ)} {z : ℤ} {x : Option Place} where
   -- the row of an allowance or a charge: category and rate, amount, base, percentage, reason and its code
   pub row_told :
-      {l₃ l₄ : List ℤ} {c d : ℕ} {m : Option ℤ} {p : Option (ℤ × ℕ)} {y : Option Place} (t : GroupTerms) (g n : ℕ) → Told (category_trade_tax L D t g n) l at (k, q) l₁ a →
-      Told (actual_amount L D t g n) l₁ a z l₂ b → Told (basis_amount L.mode L.currency D t g n) l₂ b m l₃ c → Told (calculation_percent L.mode D t g n) l₃ c p l₄ d → x ≡ kid_text D 0 n (bytes "Reason") → y ≡ kid_text D 0 n (bytes "ReasonCode") →
-      Told (row_says L D t g n) l at (record { amount = z; base = m; percentage = p; category = k; rate = q; reason = x; code = y }) l₄ d
+      {e₃ e₄ : Entries} {m : Option ℤ} {p : Option (ℤ × ℕ)} {y : Option Place} (t : GroupTerms) (g n : ℕ) → Told (category_trade_tax L D t g n) e₀ (k, q) e₁ →
+      Told (actual_amount L D t g n) e₁ z e₂ → Told (basis_amount L.mode L.currency D t g n) e₂ m e₃ → Told (calculation_percent L.mode D t g n) e₃ p e₄ → x ≡ kid_text D 0 n (bytes "Reason") → y ≡ kid_text D 0 n (bytes "ReasonCode") →
+      Told (row_says L D t g n) e₀ (record { amount = z; base = m; percentage = p; category = k; rate = q; reason = x; code = y }) e₄
   unfolding row_says
   row_told t g n v s m p e f =
       record {
@@ -45,12 +46,12 @@ module _ (L : Lent) (D : Doc ℕ Place) {l l₁ l₂ : List ℤ} {at a b : ℕ} 
 
   -- the row of a logistics charge: category and rate, amount, reason
   pub logistics_told :
-      {t : GroupTerms} {g : ℕ} (i n : ℕ) → (t ≡ group_terms true) × (g ≡ i) → Told (applied_trade_tax L D t g n) l at (k, q) l₁ a → Told (applied_amount L D t g n) l₁ a z l₂ b → x ≡ kid_text D 0 n (bytes "Description") →
-      Told (logistics_row L D i n) l at (record { amount = z; base = none; percentage = none; category = k; rate = q; reason = x; code = none }) l₂ b
+      {t : GroupTerms} {g : ℕ} (i n : ℕ) → (t ≡ group_terms true) × (g ≡ i) → Told (applied_trade_tax L D t g n) e₀ (k, q) e₁ → Told (applied_amount L D t g n) e₁ z e₂ → x ≡ kid_text D 0 n (bytes "Description") →
+      Told (logistics_row L D i n) e₀ (record { amount = z; base = none; percentage = none; category = k; rate = q; reason = x; code = none }) e₂
   unfolding logistics_row
   logistics_told {t} {g} i n o v s e = go (rw (o.0, o.1) at v) (rw (o.0, o.1) at s)
     where
-      go : Told (applied_trade_tax L D (group_terms true) i n) l at (k, q) l₁ a → Told (applied_amount L D (group_terms true) i n) l₁ a z l₂ b → Told (logistics_row L D i n) l at (record { amount = z; base = none; percentage = none; category = k; rate = q; reason = x; code = none }) l₂ b
+      go : Told (applied_trade_tax L D (group_terms true) i n) e₀ (k, q) e₁ → Told (applied_amount L D (group_terms true) i n) e₁ z e₂ → Told (logistics_row L D i n) e₀ (record { amount = z; base = none; percentage = none; category = k; rate = q; reason = x; code = none }) e₂
       go v s =
           record {
             same = row_made s.same refl refl (ap (λ (w : Place × Option (ℤ × ℕ)). w.0) v.same) (ap (λ (w : Place × Option (ℤ × ℕ)). w.1) v.same) e refl;
@@ -59,19 +60,10 @@ module _ (L : Lent) (D : Doc ℕ Place) {l l₁ l₂ : List ℤ} {at a b : ℕ} 
 
 -- an allowance or a charge: its indicator, then its row
 pub allowance_charge_told :
-    (L : Lent) (D : Doc ℕ Place) (s : Counts) (n : ℕ) {l l₁ l₂ : List ℤ} {at a r : ℕ} {b : Bool} {t : GroupTerms} {g : ℕ} {v : AllowanceCharge Place} → Told (is_charge D n) l at b l₁ a → (t ≡ group_terms b) × (g ≡ cond b s.charges s.allowances) →
-    Told (row_says L D t g n) l₁ a v l₂ r → Told (allowance_charge_says L D s n) l at (b, v) l₂ r
+    (L : Lent) (D : Doc ℕ Place) (s : Counts) (n : ℕ) {e₀ e₁ e₂ : Entries} {b : Bool} {t : GroupTerms} {g : ℕ} {v : AllowanceCharge Place} → Told (is_charge D n) e₀ b e₁ → (t ≡ group_terms b) × (g ≡ cond b s.charges s.allowances) →
+    Told (row_says L D t g n) e₁ v e₂ → Told (allowance_charge_says L D s n) e₀ (b, v) e₂
 unfolding allowance_charge_says
-allowance_charge_told L D s n {l} {l₁} {l₂} {at} {a} {r} {b} {t} {g} {v} i o q = go (rw i.same at (rw (o.0, o.1) at q))
+allowance_charge_told L D s n {e₀} {e₁} {e₂} {b} {t} {g} {v} i o q = go (rw i.same at (rw (o.0, o.1) at q))
   where
-    go : Told (row_says L D (group_terms (is_charge D n).0) (cond (is_charge D n).0 s.charges s.allowances) n) l₁ a v l₂ r → Told (allowance_charge_says L D s n) l at (b, v) l₂ r
+    go : Told (row_says L D (group_terms (is_charge D n).0) (cond (is_charge D n).0 s.charges s.allowances) n) e₁ v e₂ → Told (allowance_charge_says L D s n) e₀ (b, v) e₂
     go q = record { same = pair_made i.same q.same; said = said_then i.said q.said }
-
--- a logistics charge that is a charge
-pub charge_told :
-    (L : Lent) (D : Doc ℕ Place) (g n : ℕ) {l l₁ : List ℤ} {at r : ℕ} {v : AllowanceCharge Place} → L.extension ≡ true → Told (logistics_row L D g n) l at v l₁ r → Told (logistics_says L D g n) l at (some v) l₁ r
-unfolding logistics_says
-charge_told L D g n {l} {l₁} {at} {r} {v} e p = told_as (go L.extension _ e) (record { same = ap some p.same; said = p.said })
-  where
-    go : {A : Type 0} {s : A} (b : Bool) (o : A) → b ≡ true → s ≡ cond b s o
-    go b o e = rw e

@@ -5,7 +5,7 @@ use Rattle.text.specs.Utf8.{bytes}
 use Rattle.names.specs.declared.message.Message.TheVariants as Message
 use Rattle.names.specs.declared.path.Path.{Path}
 use Rattle.names.specs.declared.term.Term.TheVariants as Term
-use Rattle.report.specs.Rows.{Place, Held, AllowanceCharge, allowance, charge}
+use Rattle.report.specs.Rows.{Place, AllowanceCharge}
 use Rattle.report.specs.Values.{allowance_charge_of}
 use Rattle.settlement.specs.Document.{Doc, maybe}
 use Rattle.settlement.specs.Shapes.{Counts}
@@ -13,8 +13,9 @@ use Rattle.settlement.specs.Tax.{TaxPaths, category_paths, applied_paths, GroupT
 use Rattle.settlement.specs.Values.{Lent, Says, site, grouped, entry, kid_text, missing, amount, required_amount, percent}
 use Rattle.charges.specs.declared.shapes.Group as Code
 use Rattle.charges.specs.declared.shapes.TaxPaths as CodePaths
-use Rattle.charges.specs.declared.shapes.MaybeCharge.{MaybeCharge}
-use Rattle.charges.specs.declared.shapes.MaybeCharge.TheVariants.{Absent, Of}
+use Rattle.std.specs.declared.option.Option as code
+use Rattle.std.specs.Prelude.{None, Some}
+use Rattle.report.specs.declared.held.AllowanceCharge as CodeRow
 
 -- the terms and rules of a group
 abbrev pub group_terms_of : Code.Group → GroupTerms
@@ -29,13 +30,9 @@ abbrev pub counts_of : ℕ → ℕ → Counts
 counts_of allowances charges = record { allowances = allowances; charges = charges }
 
 -- a charge that may be absent
-abbrev pub maybe_charge_of : MaybeCharge → Option (AllowanceCharge Place)
-maybe_charge_of Absent = none
-maybe_charge_of (Of a) = some (allowance_charge_of a)
-
--- a row as it is held: a charge, or an allowance
-abbrev pub held_as : Bool → AllowanceCharge Place → Held Place
-held_as b a = cond b charge allowance a
+abbrev pub maybe_charge_of : code.Option CodeRow.AllowanceCharge → Option (AllowanceCharge Place)
+maybe_charge_of None = none
+maybe_charge_of (Some a) = some (allowance_charge_of a)
 
 -- a category whose element is missing: "" and no rate, and message 9 with the path of its parent
 unfoldable pub no_category : ℕ → Path → GroupTerms → ℕ → Says Place (Place × Option (ℤ × ℕ))

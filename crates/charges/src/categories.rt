@@ -2,63 +2,53 @@
 ghost use Rattle.std.specs.Prelude.{List, ℕ};
 ghost use Rattle.table.specs.Table.{found};
 ghost use Rattle.report.specs.Values.{place_of, percent_of};
-ghost use Rattle.element.specs.LinkDoc.{link_doc};
+ghost use Rattle.element.specs.LinkDoc.{doc_of};
 ghost use Rattle.values.specs.Sites.{lent_of};
 ghost use Rattle.values.specs.Told.{Told};
 ghost use Rattle.charges.specs.Charges.{group_terms_of, tax_paths_of, no_category, category_found};
 
 use crate::shapes::{Group, TaxPaths};
-use groups::{Category, CategorySaid};
+use element::Document;
+use groups::{Category, CategoryRate};
 use names::Path;
-use report::{Percent, Place};
-use values::Lent;
+use report::Place;
+use values::{Entries, Lent};
 
 // What is answered for a category whose element is missing, which is said with the path of its parent.
-fn absent(entries: &mut [i64], at: usize, rules: u32, parent: Path, g: Group) -> CategorySaid
-    ensures { Told (no_category rules parent (group_terms_of g) g.index) entries.old at ((place_of result.category, percent_of result.rate)) entries.new result.at }
+#[tactic(auto, unfolding(crate::specs::Charges::no_category))]
+fn absent(entries: &mut Entries, rules: u32, parent: Path, g: Group) -> CategoryRate
+    ensures { Told (no_category rules parent (group_terms_of g) g.index) entries.old ((place_of result.category, percent_of result.rate)) entries.new }
 {
-    let rule = g.category_rule;
-    let term = g.category;
-    let site = values::grouped(parent, term, g.index);
-    CategorySaid {
+    let site = values::grouped(parent, g.category, g.index);
+    entries.missing(rules, g.category_rule, site);
+    CategoryRate {
         category: Place::new(0, 0, 0),
-        rate: Percent::Absent,
-        at: values::missing(entries, at, rules, rule, site),
+        rate: None,
     }
 }
 
 // The category in a child e that was looked for.
+#[tactic(auto, using(element::proofs::Documents::found_is), unfolding(crate::specs::Charges::category_found, settlement::specs::Tax::category_in, groups::specs::Categories::category_says))]
 pub(crate) fn required_trade_tax(
-    table: &[u32],
-    text: &[u8],
-    links: &[u16],
+    doc: &Document,
     lent: Lent,
-    entries: &mut [i64],
-    at: usize,
+    entries: &mut Entries,
     p: TaxPaths,
     g: Group,
     e: usize,
-) -> CategorySaid
-    ensures { (currency : List ℕ) → Told (category_found (lent_of lent currency) (link_doc table.now text.now links.now) (tax_paths_of p) (group_terms_of g) g.index (found e)) entries.old at ((place_of result.category, percent_of result.rate)) entries.new result.at }
+) -> CategoryRate
+    ensures { (currency : List ℕ) → Told (category_found (lent_of lent currency) (doc_of doc.now) (tax_paths_of p) (group_terms_of g) g.index (found e)) entries.old ((place_of result.category, percent_of result.rate)) entries.new }
 {
-    let parent = p.parent;
-    let code = p.type_code;
-    let whole = p.whole;
-    let share = p.rate;
-    let category = g.category;
-    let rate = g.rate;
-    let rule = g.category_rule;
-    let index = g.index;
     if e == 0 {
-        return absent(entries, at, lent.rules, parent, g);
+        return absent(entries, lent.rules, p.parent, g);
     }
     let of = Category {
-        code,
-        whole,
-        share,
-        category,
-        rate,
-        rule,
+        code: p.type_code,
+        whole: p.whole,
+        share: p.rate,
+        category: g.category,
+        rate: g.rate,
+        rule: g.category_rule,
     };
-    groups::trade_tax(table, text, links, lent, entries, at, of, index, e)
+    groups::trade_tax(doc, lent, entries, of, g.index, e)
 }

@@ -7,7 +7,8 @@ use crate::shapes::Group;
 use codes::Rule;
 use names::Term;
 
-// The charge BG-21 of an index.
+// The charge BG-21 of an index. It and the allowance differ in constants alone, and stay two tables of them: one
+// function would take all seven.
 pub(crate) fn charge_group(index: u32) -> Group
     ensures { (group_terms_of result ≡ group_terms true) × (result.index ≡ index) }
 {

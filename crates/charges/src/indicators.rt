@@ -5,76 +5,50 @@ ghost use Rattle.table.specs.Table.{found};
 ghost use Rattle.settlement.specs.TableDoc.{shows};
 ghost use Rattle.settlement.specs.Tax as reading;
 ghost use Rattle.settlement.specs.Values.{own_text};
-ghost use Rattle.element.specs.LinkDoc.{link_doc};
+ghost use Rattle.element.specs.LinkDoc.{doc_of, lent_text};
 ghost use Rattle.values.specs.Told.{Told};
 
-use codes::ParsedBoolean;
+use element::Document;
 use names::{Message, Path, Term};
-use report::Text;
-
-// Whether it is a charge, and where the next entry goes.
-#[derive(Clone, Copy)]
-pub(crate) struct IndicatorSaid {
-    pub charge: bool,
-    pub at: usize,
-}
+use values::Entries;
 
 // The Indicator in the ChargeIndicator of element n, and 0 where there is none.
-fn indicator(table: &[u32], text: &[u8], links: &[u16], n: usize) -> usize
-    ensures { found result ≡ reading.indicator (link_doc table.now text.now links.now) n }
+#[tactic(auto, using(element::proofs::Documents::found_is), unfolding(settlement::specs::Tax::indicator, text::specs::Utf8::bytes, text::specs::Utf8::encode))]
+fn indicator(doc: &Document, n: usize) -> usize
+    ensures { found result ≡ reading.indicator (doc_of doc.now) n }
 {
-    let c = element::kid(table, text, links, n, b"ChargeIndicator");
+    let c = doc.kid(n, b"ChargeIndicator");
     if c == 0 {
         return 0;
     }
-    element::kid(table, text, links, c, b"Indicator")
+    doc.kid(c, b"Indicator")
 }
 
 // What indicator i writes; what is no boolean is said and means an allowance.
-fn indicated(
-    table: &[u32],
-    text: &[u8],
-    links: &[u16],
-    entries: &mut [i64],
-    at: usize,
-    i: usize,
-) -> IndicatorSaid
-    ensures { Told (reading.indicated (link_doc table.now text.now links.now) i (boolean_of (shows text.now (own_text (link_doc table.now text.now links.now) 0 i)))) entries.old at result.charge entries.new result.at }
+fn indicated(doc: &Document, entries: &mut Entries, i: usize) -> bool
+    ensures { Told (reading.indicated (doc_of doc.now) i (boolean_of (shows (lent_text doc.now) (own_text (doc_of doc.now) 0 i)))) entries.old result entries.new }
 {
-    let own = element::own_text(table, text, links, 0, i);
-    let answer = codes::parse_boolean(element::shown(text, own));
-    match answer {
-        ParsedBoolean::Boolean(charge) => IndicatorSaid { charge, at },
-        ParsedBoolean::Malformed => {
+    let own = doc.own_text(0, i);
+    match codes::parse_boolean(doc.shown(own)) {
+        Some(charge) => charge,
+        None => {
             let site = values::site(Path::AllowanceChargeIndicator, Term::None);
-            let message = Message::IndicatorMalformed;
-            IndicatorSaid {
-                charge: false,
-                at: values::say(entries, at, message, site, Text::At(own)),
-            }
+            entries.say(Message::IndicatorMalformed, site, Some(own));
+            false
         }
     }
 }
 
 // Whether element n is a charge; an absent indicator is said and means an allowance.
-pub(crate) fn is_charge(
-    table: &[u32],
-    text: &[u8],
-    links: &[u16],
-    entries: &mut [i64],
-    at: usize,
-    n: usize,
-) -> IndicatorSaid
-    ensures { Told (reading.is_charge (link_doc table.now text.now links.now) n) entries.old at result.charge entries.new result.at }
+#[tactic(auto, using(element::proofs::Documents::found_is, values::proofs::Telling::told_said), unfolding(settlement::specs::Tax::is_charge))]
+pub(crate) fn is_charge(doc: &Document, entries: &mut Entries, n: usize) -> bool
+    ensures { Told (reading.is_charge (doc_of doc.now) n) entries.old result entries.new }
 {
-    let i = indicator(table, text, links, n);
+    let i = indicator(doc, n);
     if i == 0 {
         let site = values::site(Path::AllowanceChargeIndicator, Term::None);
-        let message = Message::IndicatorAbsent;
-        return IndicatorSaid {
-            charge: false,
-            at: values::say(entries, at, message, site, Text::Absent),
-        };
+        entries.say(Message::IndicatorAbsent, site, None);
+        return false;
     }
-    indicated(table, text, links, entries, at, i)
+    indicated(doc, entries, i)
 }

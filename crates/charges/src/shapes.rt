@@ -1,7 +1,6 @@
-// What allowances and charges are read with, and what a logistics charge may be.
+// What allowances and charges are read with.
 use codes::Rule;
 use names::{Path, Term};
-use report::AllowanceCharge;
 
 // A group BG-20 or BG-21: its index, its terms, and the rules that require two of them.
 #[derive(Clone, Copy)]
@@ -23,18 +22,4 @@ pub struct TaxPaths {
     pub whole: Path,
     pub rate: Path,
     pub parent: Path,
-}
-
-// A charge that may be absent.
-#[derive(Clone, Copy)]
-pub enum MaybeCharge {
-    Absent,
-    Of(AllowanceCharge),
-}
-
-// The row of an allowance or a charge, and where the next entry goes.
-#[derive(Clone, Copy)]
-pub struct RowSaid {
-    pub row: AllowanceCharge,
-    pub at: usize,
 }

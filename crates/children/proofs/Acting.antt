@@ -5,91 +5,85 @@ use mathlib.Core.List.{List, [], ◌∷◌}
 use mathlib.Core.Option.{none, some}
 use Prim.Native.Nat.{ℕ, suc, ◌+◌}
 use native.Mathlib.Omega.{arith}
-use lib.IntN.{ℤ}
-use Rattle.report.specs.Rows.{Place, Held, Vat, vat, AllowanceCharge, charge, Preceding, preceding}
-use Rattle.report.specs.Encoding.{held_row}
-use Rattle.report.specs.Placed.{Placed}
-use Rattle.report.specs.declared.cursor.Cursor.{Cursor}
-use Rattle.report.proofs.RowsOf.{rows_one}
+use Rattle.report.specs.Rows.{Place, Held, Vat, vat, AllowanceCharge, charge, Preceding, preceding, held_as}
+use Rattle.report.specs.HeldRows.{Holds}
+use Rattle.report.specs.declared.held.HeldRows.{HeldRows}
 use Rattle.settlement.specs.Document.{Doc, maybe}
 use Rattle.settlement.specs.Shapes.{Act, VatState, Counts}
 use Rattle.settlement.specs.Tax.{trade_tax_of, counted, allowance_or_charge, logistics}
 use Rattle.settlement.specs.Settlement as reading
 use Rattle.settlement.specs.Values.{Lent, Says}
 use Rattle.values.specs.Told.{Told}
-use Rattle.unmapped.proofs.Notings.{notings_none}
+use Rattle.values.specs.declared.saying.Entries.{Entries}
+use Rattle.unmapped.proofs.Notings.{notes_none}
+use Rattle.unmapped.specs.declared.note.UnmappedRows.{UnmappedRows}
 use Rattle.unmapped.specs.Acted.{Acted}
 use Rattle.groups.specs.Taxes.{trade_tax_says}
 use Rattle.groups.specs.Groups.{preceding_says}
 use Rattle.groups.proofs.Meaning.{vat_breakdown_says, vat_breakdown_holds, vat_breakdown_next, vat_breakdown_strays, preceding_is}
-use Rattle.charges.specs.Charges.{held_as, allowance_charge_says, logistics_says}
+use Rattle.charges.specs.Charges.{allowance_charge_says, logistics_says}
 use Rattle.charges.proofs.Meaning.{allowance-charge-says, allowance_charge_holds, allowance_charge_next, allowance_charge_strays, logistics-says, logistics_holds, logistics_next, logistics_strays}
 use Rattle.steps.proofs.Stepping.{none_held}
 
--- where the next rows go after what was held and said
-abbrev after : Cursor → ℕ → ℕ → Cursor
-after c held entries = record { held = held; entries = entries; unmapped = c.unmapped }
-
 -- a child that says something and holds one row
 pub row_acted :
-    {S A : Type 0} {a : Act Place S} {t : Says Place A} (row : A → Held Place) {v : A} {next : S} {h h' e e' : List ℤ} {b r : ℕ} (c : Cursor) →
+    {S A : Type 0} {a : Act Place S} {t : Says Place A} (row : A → Held Place) {v : A} {next : S} {h h' : HeldRows} {e e' : Entries} →
     next ≡ a.next →
     t.1 ≡ a.says →
     row t.0 ∷ [] ≡ a.holds →
     [] ≡ a.strays →
-    Told t e c.entries v e' r →
-    Placed h c.held (held_row (row v)) h' b →
-    (x : List ℕ) (u : List ℤ) →
-    Acted a x next c (after c b r) h h' e e' u u
-row_acted {S} {A} {a} {t} row {v} c p q w z told put x u =
+    Told t e v e' →
+    Holds (row v ∷ []) h h' →
+    (x : List ℕ) (u : UnmappedRows) →
+    Acted a x next h h' e e' u u
+row_acted {S} {A} {a} {t} row {v} p q w z told put x u =
     record {
       same = p;
-      held = rw (ap (λ (i : A). row i ∷ []) told.same ∙ w) at (rows_one held_row (row v) put);
+      held = rw (ap (λ (i : A). row i ∷ []) told.same ∙ w) at put;
       said = rw q at told.said;
-      noted = rw (← z) (notings_none x u c.unmapped);
+      noted = rw (← z) (notes_none x u);
     }
 
-module _ (L : Lent) (D : Doc ℕ Place) (n : ℕ) {h h' e e' : List ℤ} {b r : ℕ} (c : Cursor) (x : List ℕ) (u : List ℤ) where
+module _ (L : Lent) (D : Doc ℕ Place) (n : ℕ) {h h' : HeldRows} {e e' : Entries} (x : List ℕ) (u : UnmappedRows) where
   -- a VAT breakdown
-  pub vat_acted : (s : VatState Place) {q : VatState Place} {v : Vat Place} → Told (trade_tax_says L D s n) e c.entries ((q, v)) e' r → Placed h c.held (held_row (vat v)) h' b → Acted (trade_tax_of L D s n) x (record { count = s.count + 1; point = q.point; code = q.code; first = q.first }) c (after c b r) h h' e e' u u
+  pub vat_acted : (s : VatState Place) {q : VatState Place} {v : Vat Place} → Told (trade_tax_says L D s n) e ((q, v)) e' → Holds (vat v ∷ []) h h' → Acted (trade_tax_of L D s n) x (record { count = s.count + 1; point = q.point; code = q.code; first = q.first }) h h' e e' u u
   vat_acted s told put =
       let one : s.count + 1 ≡ suc s.count = omega arith in
       rw one
-      (row_acted (λ (w : VatState Place × Vat Place). vat w.1) c (ap more told.same ∙ vat_breakdown_next L D s n) (vat_breakdown_says L D s n) (vat_breakdown_holds L D s n) (vat_breakdown_strays L D s n) told put x u)
+      (row_acted (λ (w : VatState Place × Vat Place). vat w.1) (ap more told.same ∙ vat_breakdown_next L D s n) (vat_breakdown_says L D s n) (vat_breakdown_holds L D s n) (vat_breakdown_strays L D s n) told put x u)
     where
       more : VatState Place × Vat Place → VatState Place
       more w = record { count = suc s.count; point = w.0.point; code = w.0.code; first = w.0.first }
 
   -- a preceding invoice
-  pub preceding_acted : (g : ℕ) {v : Preceding Place} → Told (preceding_says L.mode L.rules D g n) e c.entries v e' r → Placed h c.held (held_row (preceding v)) h' b → Acted (reading.preceding_of L D g n) x (g + 1) c (after c b r) h h' e e' u u
-  preceding_acted g told put = rw (← preceding_is L D g n) (row_acted preceding c (omega arith) refl refl refl told put x u)
+  pub preceding_acted : (g : ℕ) {v : Preceding Place} → Told (preceding_says L.mode L.rules D g n) e v e' → Holds (preceding v ∷ []) h h' → Acted (reading.preceding_of L D g n) x (g + 1) h h' e e' u u
+  preceding_acted g told put = rw (← preceding_is L D g n) (row_acted preceding (omega arith) refl refl refl told put x u)
 
   -- an allowance or a charge
-  pub allowance_acted : (s : Counts) {i : Bool} {v : AllowanceCharge Place} → Told (allowance_charge_says L D s n) e c.entries ((i, v)) e' r → Placed h c.held (held_row (held_as i v)) h' b → Acted (allowance_or_charge L D s n) x (counted i s) c (after c b r) h h' e e' u u
+  pub allowance_acted : (s : Counts) {i : Bool} {v : AllowanceCharge Place} → Told (allowance_charge_says L D s n) e ((i, v)) e' → Holds (held_as i v ∷ []) h h' → Acted (allowance_or_charge L D s n) x (counted i s) h h' e e' u u
   allowance_acted s told put =
-      row_acted (λ (w : Bool × AllowanceCharge Place). held_as w.0 w.1) c (ap (λ (w : Bool × AllowanceCharge Place). counted w.0 s) told.same ∙ allowance_charge_next L D s n) (allowance-charge-says L D s n) (allowance_charge_holds L D s n)
+      row_acted (λ (w : Bool × AllowanceCharge Place). held_as w.0 w.1) (ap (λ (w : Bool × AllowanceCharge Place). counted w.0 s) told.same ∙ allowance_charge_next L D s n) (allowance-charge-says L D s n) (allowance_charge_holds L D s n)
       (sym (allowance_charge_strays L D s n)) told put x u
 
   -- a logistics charge that is a charge
-  pub logistics_held : (s : Counts) {v : AllowanceCharge Place} → Told (logistics_says L D s.charges n) e c.entries (some v) e' r → Placed h c.held (held_row (charge v)) h' b → Acted (logistics L D s n) x (counted true s) c (after c b r) h h' e e' u u
+  pub logistics_held : (s : Counts) {v : AllowanceCharge Place} → Told (logistics_says L D s.charges n) e (some v) e' → Holds (charge v ∷ []) h h' → Acted (logistics L D s n) x (counted true s) h h' e e' u u
   logistics_held s {v} told put =
       record {
         same = ap (maybe s (λ i. counted true s)) told.same ∙ logistics_next L D s n;
-        held = rw (ap (maybe [] (λ i. charge i ∷ [])) told.same ∙ logistics_holds L D s n) at (rows_one held_row (charge v) put);
+        held = rw (ap (maybe [] (λ i. charge i ∷ [])) told.same ∙ logistics_holds L D s n) at put;
         said = rw (logistics-says L D s n) at told.said;
-        noted = rw (logistics_strays L D s n) (notings_none x u c.unmapped);
+        noted = rw (logistics_strays L D s n) (notes_none x u);
       }
 
 -- one that is not
 pub logistics-left :
-    (L : Lent) (D : Doc ℕ Place) (n : ℕ) {e e' : List ℤ} {r : ℕ} (c : Cursor) (x : List ℕ) (u : List ℤ) (s : Counts) → Told (logistics_says L D s.charges n) e c.entries none e' r → (h : List ℤ) →
-    Acted (logistics L D s n) x s c (after c c.held r) h h e e' u u
-logistics-left L D n c x u s told h =
+    (L : Lent) (D : Doc ℕ Place) (n : ℕ) {e e' : Entries} (x : List ℕ) (u : UnmappedRows) (s : Counts) → Told (logistics_says L D s.charges n) e none e' → (h : HeldRows) → Acted (logistics L D s n) x s h h e e' u u
+logistics-left L D n x u s told h =
     record {
       same = ap (maybe s (λ i. counted true s)) told.same ∙ logistics_next L D s n;
-      held = none_held (sym (ap (maybe [] (λ i. charge i ∷ [])) told.same ∙ logistics_holds L D s n)) refl h;
+      held = none_held (sym (ap (maybe [] (λ i. charge i ∷ [])) told.same ∙ logistics_holds L D s n)) h;
       said = rw (logistics-says L D s n) at told.said;
-      noted = rw (logistics_strays L D s n) (notings_none x u c.unmapped);
+      noted = rw (logistics_strays L D s n) (notes_none x u);
     }
 
 -- one charge more

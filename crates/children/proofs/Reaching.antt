@@ -1,18 +1,19 @@
 -- The loop over the children of a settlement.
 use mathlib.Core.Path.{◌≡◌, sym, ap, ◌∙◌}
-use mathlib.Core.Logic.{◌≢◌}
+use mathlib.Core.Bool.{Bool, true, false, cond}
 use mathlib.Core.List.{List, [], ◌∷◌, ◌++◌, append-nil, append_assoc}
-use Prim.Native.Nat.{ℕ, ◌+◌, ◌-◌, ◌/◌, ◌≤◌, ◌<◌}
+use Prim.Native.Nat.{ℕ, zero, suc, ◌+◌, ◌/◌, ◌≤◌}
 use native.Mathlib.Omega.{arith}
-use lib.IntN.{ℤ}
-use lib.ListN.{length}
+use lib.Dec.{eqb}
+use lib.ListN.{length, length-append}
 use Rattle.links.specs.Links.{link, chain, linked}
-use Rattle.links.proofs.Chains.{chain_start, chain_turn, chain_zero, chain_out}
+use Rattle.report.specs.declared.held.HeldRows.{HeldRows}
 use Rattle.settlement.specs.Settlement.{kind_of}
 use Rattle.settlement.specs.Values.{Lent}
 use Rattle.element.specs.LinkDoc.{link_doc}
+use Rattle.values.specs.declared.saying.Entries.{Entries}
+use Rattle.unmapped.specs.declared.note.UnmappedRows.{UnmappedRows}
 use Rattle.children.specs.Counts.{Counted}
-use Rattle.report.specs.declared.cursor.Cursor.{Cursor}
 use Rattle.kinds.specs.Kinds.{kind_is}
 use Rattle.steps.specs.States.{state}
 use Rattle.steps.specs.Steps.{Stepped}
@@ -22,53 +23,60 @@ use Rattle.steps.specs.declared.state.State as Code
 use Rattle.steps.specs.declared.state.Plain.{Plain}
 use Rattle.steps.specs.declared.state.Tally.{Tally}
 use Rattle.steps.specs.declared.state.Billing.{Billing}
-use Rattle.steps.specs.declared.state.MaybeTotals.{MaybeTotals}
 use Rattle.children.proofs.Counting.{counted_more}
 use Rattle.children.proofs.Walking.{walked_none, walked_more, walked_as}
+use Rattle.std.specs.Prelude.{Option}
+use Rattle.totals.specs.declared.state.Totals as CodeTotals
 
--- at child c with `left` steps to go: the children before it were read, and the rest of the chain is the rest of them
-pub record Reached (L : Lent) (t x l : List ℕ) (n : ℕ) (s₀ : Code.State) (h₀ e₀ u₀ : List ℤ) (left c : ℕ) (s : Code.State) (h e u : List ℤ) : Type 0 where
+-- the links spell no more records than they have
+chain_length : (l : List ℕ) (n c : ℕ) → length (chain l n c) ≤ n
+unfolding chain
+chain_length l zero c = omega arith
+chain_length l (suc n) c = go (eqb c 0) (chain_length l n (link l c 2))
+  where
+    go : (b : Bool) → length (chain l n (link l c 2)) ≤ n → length (cond b [] (c ∷ chain l n (link l c 2))) ≤ suc n
+    go true h = omega arith
+    go false h = omega arith
+
+-- with the children cs to go: those before them were read
+pub record Reached (L : Lent) (t x l : List ℕ) (n : ℕ) (s₀ : Code.State) (h₀ : HeldRows) (e₀ : Entries) (u₀ : UnmappedRows) (cs : List ℕ) (s : Code.State) (h : HeldRows) (e : Entries) (u : UnmappedRows) : Type 0 where
   pub done : List ℕ
-  pub rest : linked l 0 n ≡ done ++ chain l left c
+  pub rest : linked l 0 n ≡ done ++ cs
   pub walked : Walked L (link_doc t x l) x done s₀ s h₀ h e₀ e u₀ u
-  pub counted : Counted s.tally (length l / 3 - left)
+  pub counted : Counted s.tally (length done)
 
-module _ (L : Lent) (t x l : List ℕ) (n : ℕ) (s₀ : Code.State) (h₀ e₀ u₀ : List ℤ) where
-  pub reached_start : (c : ℕ) → c ≡ link l n 0 → Counted s₀.tally 0 → Reached L t x l n s₀ h₀ e₀ u₀ (length l / 3) c s₀ h₀ e₀ u₀
-  reached_start c e p =
-      let z : length l / 3 - length l / 3 ≡ 0 = omega arith in
-      record { done = []; rest = chain_start l 0 n c e; walked = walked_none L (link_doc t x l) x s₀ h₀ e₀ u₀; counted = rw z p }
+module _ {L : Lent} {t x l : List ℕ} {n : ℕ} {s₀ : Code.State} {h₀ : HeldRows} {e₀ : Entries} {u₀ : UnmappedRows} where
+  pub reached_start : {cs : List ℕ} → cs ≡ linked l 0 n → Counted s₀.tally 0 → Reached L t x l n s₀ h₀ e₀ u₀ cs s₀ h₀ e₀ u₀
+  reached_start q p = record { done = []; rest = sym q; walked = walked_none L (link_doc t x l) x s₀ h₀ e₀ u₀; counted = p }
 
-  module _ {left c : ℕ} {s : Code.State} {h e u : List ℤ} (k : Reached L t x l n s₀ h₀ e₀ u₀ left c s h e u) where
+  module _ {cs : List ℕ} {s : Code.State} {h : HeldRows} {e : Entries} {u : UnmappedRows} (k : Reached L t x l n s₀ h₀ e₀ u₀ cs s h e u) where
+    -- fewer children than the links have records were read before one more
+    pub reached_fewer : {c : ℕ} {ds : List ℕ} → cs ≡ c ∷ ds → length k.done + 1 ≤ length l / 3
+    unfolding linked
+    reached_fewer {c} {ds} q = omega (arith, chain_length l (length l / 3) (link l n 0), ap length (k.rest ∙ ap (λ (m : List ℕ). k.done ++ m) q), length-append k.done (c ∷ ds))
+
     pub reached_turn :
-        0 < left →
-        left ≤ length l / 3 →
-        c ≢ 0 →
-        {r : Code.State} {h' e' u' : List ℤ} →
-        Stepped (kind_of (link_doc t x l) c) L (link_doc t x l) x c s r h h' e e' u u' →
-        (d : ℕ) →
-        d ≡ link l c 2 →
-        Reached L t x l n s₀ h₀ e₀ u₀ (left - 1) d r h' e' u'
-    reached_turn f g z {r} {h'} {e'} {u'} m d q =
-        let one : length l / 3 - (left - 1) ≡ length l / 3 - left + 1 = omega arith in
+        {c : ℕ} {ds : List ℕ} {r : Code.State} {h' : HeldRows} {e' : Entries} {u' : UnmappedRows} → cs ≡ c ∷ ds → Stepped (kind_of (link_doc t x l) c) L (link_doc t x l) x c s r h h' e e' u u' →
+        Reached L t x l n s₀ h₀ e₀ u₀ ds r h' e' u'
+    reached_turn {c} {ds} {r} q m =
+        let one : length (k.done ++ c ∷ []) ≡ length k.done + 1 = length-append k.done (c ∷ []) in
         record {
           done = k.done ++ c ∷ [];
-          rest = k.rest ∙ ap (λ (m : List ℕ). k.done ++ m) (chain_turn l left c f z ∙ ap (λ (i : ℕ). c ∷ chain l (left - 1) i) (sym q)) ∙ sym (append_assoc k.done (c ∷ []) (chain l (left - 1) d));
+          rest = k.rest ∙ rw (q, append_assoc k.done);
           walked = walked_more L (link_doc t x l) x k.walked m;
           counted = rw one (counted_more L (link_doc t x l) c (kind_of (link_doc t x l) c) s r m.state k.counted);
         }
 
     -- the same by parts, and by the kind that the code found
     pub reached_step :
-        0 < left →
-        left ≤ length l / 3 →
-        c ≢ 0 →
+        {c : ℕ} {ds : List ℕ} →
+        cs ≡ c ∷ ds →
         {i j : Kind.Kind} →
         i ≡ j →
         kind_is i ≡ kind_of (link_doc t x l) c →
-        {r : Code.State} {h' e' u' : List ℤ} →
+        {r : Code.State} {h' : HeldRows} {e' : Entries} {u' : UnmappedRows} →
         Stepped (kind_is j) L (link_doc t x l) x c s r h h' e e' u u' →
-        {p : Plain} {y : Tally} {b : Billing} {m : MaybeTotals} {q : Cursor} {h'' e'' u'' : List ℤ} →
+        {p : Plain} {y : Tally} {b : Billing} {m : Option CodeTotals.Totals} {h'' : HeldRows} {e'' : Entries} {u'' : UnmappedRows} →
         h'' ≡ h' →
         e'' ≡ e' →
         u'' ≡ u' →
@@ -76,16 +84,8 @@ module _ (L : Lent) (t x l : List ℕ) (n : ℕ) (s₀ : Code.State) (h₀ e₀ 
         y ≡ r.tally →
         b ≡ r.billing →
         m ≡ r.totals →
-        q ≡ r.cursor →
-        (d : ℕ) →
-        d ≡ link l c 2 →
-        Reached L t x l n s₀ h₀ e₀ u₀ (left - 1) d (state p y b m q) h'' e'' u''
-    reached_step f g z a k' made b₁ b₂ b₃ a₁ a₂ a₃ a₄ a₅ d w = rw (b₁, b₂, b₃, a₁, a₂, a₃, a₄, a₅) (reached_turn f g z (rw (← k', a) made) d w)
+        Reached L t x l n s₀ h₀ e₀ u₀ ds (state p y b m) h'' e'' u''
+    reached_step q a k' made b₁ b₂ b₃ a₁ a₂ a₃ a₄ = rw (b₁, b₂, b₃, a₁, a₂, a₃, a₄) (reached_turn q (rw (← k', a) made))
 
-    pub reached_zero : c ≡ 0 → Walked L (link_doc t x l) x (linked l 0 n) s₀ s h₀ h e₀ e u₀ u
-    reached_zero z = walked_as L (link_doc t x l) x k.walked (sym (k.rest ∙ rw (z, chain_zero l left) (append-nil k.done)))
-
-    pub reached_out : left ≤ 0 → Walked L (link_doc t x l) x (linked l 0 n) s₀ s h₀ h e₀ e u₀ u
-    reached_out z =
-        let none_left : left ≡ 0 = omega arith in
-        walked_as L (link_doc t x l) x k.walked (sym (k.rest ∙ rw (none_left, chain_out l c) (append-nil k.done)))
+    pub reached_end : cs ≡ [] → Walked L (link_doc t x l) x (linked l 0 n) s₀ s h₀ h e₀ e u₀ u
+    reached_end q = walked_as L (link_doc t x l) x k.walked (sym (k.rest ∙ rw q (append-nil k.done)))

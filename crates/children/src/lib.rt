@@ -2,9 +2,9 @@
 // looked up once, and a `match` leads to the function of its kind, here for those that make rows and in
 // crate `steps` for the others.
 //
-// Rows, entries and unmapped names go to the lent lists, each behind what it had. A document is lent as a
-// table, its text and its links (crate `element`). No public function has a `requires` (those that count
-// rows have one, and are private), and the crate assumes nothing of its own.
+// Rows, entries and unmapped names go to the lent lists, each behind what it had. A document is lent as one
+// value (`element::Document`). No public function has a `requires` (those that count rows have one, and are
+// private), and the crate assumes nothing of its own.
 #![tactic(auto)]
 
 mod rows;

@@ -1,122 +1,148 @@
--- The table of currency codes: it ascends, and a text is a code where its number is in the table.
+-- The table of currency codes: it ascends, and a search in it finds the codes.
 use mathlib.Core.Path.{◌≡◌, refl, sym, ◌∙◌, ap}
-use mathlib.Core.Bool.{Bool, true, false, cond, ◌&&◌}
+use mathlib.Core.Bool.{Bool, true, false, ◌&&◌, ◌||◌, or-true}
 use mathlib.Core.List.{List, [], ◌∷◌, map}
-use Prim.Native.Nat.{ℕ, ◌+◌, ◌*◌, ◌<◌}
+use Prim.Native.Nat.{ℕ, zero, suc, ◌≤◌, ◌<◌}
 use native.Mathlib.Omega.{arith}
-use borrow.Author.Tests.{ltb-true, lt-ltb, eq-eqb, ne_eqb}
-use lib.Dec.{ltb, eqb}
+use native.Mathlib.Nat.{le_of_suc-le-suc, not-suc-le-zero}
+use native.Mathlib.Decide.{dec_lt}
+use borrow.Author.Tests.{eqb-true}
+use lib.Dec.{eqb}
 use lib.ListN.{length, get_or}
+use Rattle.std.specs.Prelude.{Result, Ok, Err}
+use Rattle.std.specs.Result.{is_ok}
+use Rattle.std.specs.declared.cmp.Ordering.{Ordering}
+use Rattle.std.specs.declared.cmp.Ordering.TheVariants.{Less, Equal, Greater}
+use Rattle.std.specs.Ordering.{nat_cmp, is_lt, ordering_index, ordering_reverse}
+use Rattle.std.specs.Cmp.Lexicographic.{slice_cmp}
+use Rattle.std.specs.List.Sorted.{IsBinarySearchResult, IsSearchInRange, IsNonDecreasingBy}
+use Rattle.std.proofs.lemmas.Cmp.{nat_list_cmp_total}
 use Rattle.text.specs.Order.{equal}
 use Rattle.text.specs.Utf8.{bytes, encode}
-use Rattle.text.proofs.Bools.{both, not_both}
-use Rattle.text.proofs.Orders.{equal_is, equal_refl}
-use Rattle.codes.specs.Ascending.{rising, member}
+use Rattle.text.proofs.Bools.{both}
+use Rattle.text.proofs.Orders.{equal_is, equal_refl, order_is, order_slices}
 use Rattle.codes.specs.Currency.{currency_codes, among, listed}
-use Rattle.codes.proofs.Ascending.{rising_none}
 
--- three bytes as one number, which orders them as texts; 0 for any other list
-unfoldable pub key : List ℕ → ℕ
-key [] = 0
-key (a ∷ []) = 0
-key (a ∷ b ∷ []) = 0
-key (a ∷ b ∷ c ∷ []) = cond (ltb a 256 && ltb b 256 && ltb c 256) ((a * 256 + b) * 256 + c) 0
-key (a ∷ b ∷ c ∷ d ∷ s) = 0
+abbrev against : List ℕ → List ℕ → Ordering
+against = slice_cmp nat_cmp
 
-unfoldable pub keys : List ℕ
-keys = map key (map bytes currency_codes)
+less_is : (o : Ordering) → is_lt o ≡ true → o ≡ Less
+less_is Less e = refl
+less_is Equal e = cc
+less_is Greater e = cc
 
--- the computed test of the entire list: each code is three bytes, and they ascend without repeats
-pub codes_ascend : rising 0 keys ≡ true
-unfolding keys currency_codes key bytes encode rising
+-- each text is above the one before it, and the first above m
+unfoldable pub ascends : List ℕ → List (List ℕ) → Bool
+ascends m [] = true
+ascends m (x ∷ l) = is_lt (against m x) && ascends x l
+
+-- every text is above the one that the first must be above, and a later one above an earlier
+ascends_above : (l : List (List ℕ)) (m : List ℕ) → ascends m l ≡ true → (k : ℕ) (d : List ℕ) → k < length l → against m (get_or l k d) ≡ Less
+unfolding ascends
+ascends_above [] m e k d h = absurd (not-suc-le-zero h)
+ascends_above (x ∷ l) m e zero d h = less_is (against m x) (both (is_lt (against m x)) (ascends x l) e).0
+ascends_above (x ∷ l) m e (suc k) d h =
+    let b = both (is_lt (against m x)) (ascends x l) e in
+    nat_list_cmp_total.trans m x (get_or l k d) (less_is (against m x) b.0) (ascends_above l x b.1 k d (le_of_suc-le-suc h))
+
+ascends_lt : (l : List (List ℕ)) (m : List ℕ) → ascends m l ≡ true → (i j : ℕ) (d : List ℕ) → i < j → j < length l → against (get_or l i d) (get_or l j d) ≡ Less
+unfolding ascends
+ascends_lt [] m e i j d h h' = absurd (not-suc-le-zero h')
+ascends_lt (x ∷ l) m e i zero d h h' = absurd (not-suc-le-zero h)
+ascends_lt (x ∷ l) m e zero (suc j) d h h' = ascends_above l x (both (is_lt (against m x)) (ascends x l) e).1 j d (le_of_suc-le-suc h')
+ascends_lt (x ∷ l) m e (suc i) (suc j) d h h' = ascends_lt l x (both (is_lt (against m x)) (ascends x l) e).1 i j d (le_of_suc-le-suc h) (le_of_suc-le-suc h')
+
+-- how two texts in order stand to a third
+stands : (a b x : List ℕ) → against a b ≡ Less → ordering_index (against a x) ≤ ordering_index (against b x)
+stands a b x e = go (against a x) refl (against b x) refl
+  where
+    turned : against x b ≡ Less → against b x ≡ Greater
+    turned p = nat_list_cmp_total.antisymm b x ∙ rw p
+
+    go : (o : Ordering) → against a x ≡ o → (v : Ordering) → against b x ≡ v → ordering_index o ≤ ordering_index v
+    go Less p v q = omega arith
+    go Equal p v q = let z = turned (sym (nat_list_cmp_total.congr a x b p) ∙ e) in rw (sym q ∙ z) (omega arith)
+    go Greater p v q = let z = turned (nat_list_cmp_total.trans x a b (nat_list_cmp_total.antisymm x a ∙ rw p) e) in rw (sym q ∙ z) (omega arith)
+
+rises : (l : List (List ℕ)) (m x : List ℕ) → ascends m l ≡ true → IsNonDecreasingBy (λ y. ordering_index (against y x)) l
+rises l m x e i j d h h' = elim (dec_lt i j) [ yes q ↦ stands (get_or l i d) (get_or l j d) x (ascends_lt l m e i j d q h') | no q ↦ (let z : i ≡ j = omega arith in rw z (omega arith)) ]
+
+same_text : (y x : List ℕ) → against y x ≡ Equal → y ≡ x
+same_text y x e = order_is y x (sym (order_slices y x Equal (sym e)))
+
+itself : (x : List ℕ) → against x x ≡ Equal
+itself x = go (against x x) (nat_list_cmp_total.antisymm x x)
+  where
+    go : (o : Ordering) → o ≡ ordering_reverse o → o ≡ Equal
+    go Less e = cc
+    go Equal e = refl
+    go Greater e = cc
+
+among_at : (l : List (List ℕ)) (x d : List ℕ) (k : ℕ) → k < length l → get_or l k d ≡ x → among x l ≡ true
+unfolding among
+among_at [] x d k h e = absurd (not-suc-le-zero h)
+among_at (y ∷ l) x d zero h e = rw (e, equal_refl x)
+among_at (y ∷ l) x d (suc k) h e = rw (among_at l x d k (le_of_suc-le-suc h) e) (or-true (equal x y))
+
+among_none : (l : List (List ℕ)) (x d : List ℕ) → ((k : ℕ) → k < length l → get_or l k d ≡ x → ⊥) → among x l ≡ false
+unfolding among
+among_none [] x d n = refl
+among_none (y ∷ l) x d n = go (equal x y) refl (among_none l x d (λ k h e. n (suc k) (omega arith) e))
+  where
+    go : (b : Bool) → equal x y ≡ b → among x l ≡ false → (equal x y || among x l) ≡ false
+    go true e r = absurd (n 0 (omega arith) (sym (equal_is x y e)))
+    go false e r = rw (e, r)
+
+alike : (y x : List ℕ) (o : Ordering) → against y x ≡ o → y ≡ x → o ≡ Equal
+alike y x o p e = sym p ∙ ap (λ (t : List ℕ). against t x) e ∙ itself x
+
+-- what a search for x answers
+pub found : (l : List (List ℕ)) (x : List ℕ) (r : Result ℕ ℕ) → ascends [] l ≡ true → IsSearchInRange r (length l) → IsBinarySearchResult (λ y. against y x) l r → is_ok r ≡ among x l
+found l x (Ok i) e b h = sym (among_at l x [] i b (same_text (get_or l i []) x (h [])))
+found l x (Err i) e b h = sym (among_none l x [] none)
+  where
+    none : (k : ℕ) → k < length l → get_or l k [] ≡ x → ⊥
+    none k q z =
+        let p = h (rises l [] x e) in
+        elim (dec_lt k i) [
+          | yes t ↦ (let w : Less ≡ Equal = alike (get_or l k []) x Less (p.0 k [] (omega arith) t) z in cc)
+          | no t ↦ (let w : Greater ≡ Equal = alike (get_or l k []) x Greater (p.1 k [] (omega arith) q) z in cc)
+        ]
+
+unfoldable pub codes : List (List ℕ)
+codes = map bytes currency_codes
+
+-- the computed tests of the entire list: the codes ascend without repeats, and each is three bytes
+pub codes_ascend : ascends [] codes ≡ true
+unfolding codes currency_codes bytes encode ascends
 codes_ascend = refl
 
--- a list with a number above 0 is three bytes, and the number tells which
-record Three (s : List ℕ) : Type 0 where
-  a : ℕ
-  b : ℕ
-  c : ℕ
-  a_byte : a < 256
-  b_byte : b < 256
-  c_byte : c < 256
-  is : s ≡ a ∷ b ∷ c ∷ []
-  number : key s ≡ (a * 256 + b) * 256 + c
+unfoldable threes : List (List ℕ) → Bool
+threes [] = true
+threes (t ∷ l) = eqb (length t) 3 && threes l
 
-three : (s : List ℕ) → 0 < key s → Three s
-unfolding key
+codes_three : threes codes ≡ true
+unfolding codes currency_codes bytes encode threes
+codes_three = refl
+
+other : (s : List ℕ) (l : List (List ℕ)) → threes l ≡ true → (length s ≡ 3 → ⊥) → among s l ≡ false
+unfolding among threes
+other s [] e n = refl
+other s (t ∷ l) e n = let b = both (eqb (length t) 3) (threes l) e in go (equal s t) refl (eqb-true (length t) 3 b.0) (other s l b.1 n)
+  where
+    go : (p : Bool) → equal s t ≡ p → length t ≡ 3 → among s l ≡ false → (equal s t || among s l) ≡ false
+    go true q h r = absurd (n (ap length (equal_is s t q) ∙ h))
+    go false q h r = rw (q, r)
+
+-- a text of another length
+pub listed_other : (s : List ℕ) → (length s ≡ 3 → ⊥) → false ≡ listed s
+unfolding listed codes
+listed_other s n = sym (other s codes codes_three n)
+
+-- a text of three bytes
+pub three : (s : List ℕ) → length s ≡ 3 → get_or s 0 0 ∷ get_or s 1 0 ∷ get_or s 2 0 ∷ [] ≡ s
 three [] h = absurd (omega arith)
 three (a ∷ []) h = absurd (omega arith)
 three (a ∷ b ∷ []) h = absurd (omega arith)
-three (a ∷ b ∷ c ∷ []) h = go (ltb a 256 && ltb b 256 && ltb c 256) refl h
-  where
-    go : (p : Bool) → (ltb a 256 && ltb b 256 && ltb c 256) ≡ p → 0 < cond p ((a * 256 + b) * 256 + c) 0 → Three (a ∷ b ∷ c ∷ [])
-    go true e h =
-        let u = both (ltb a 256 && ltb b 256) (ltb c 256) e in
-        let v = both (ltb a 256) (ltb b 256) u.0 in
-        record {
-          a = a;
-          b = b;
-          c = c;
-          a_byte = ltb-true a 256 v.0;
-          b_byte = ltb-true b 256 v.1;
-          c_byte = ltb-true c 256 u.1;
-          is = refl;
-          number = rw e;
-        }
-    go false e h = absurd (omega arith)
+three (a ∷ b ∷ c ∷ []) h = refl
 three (a ∷ b ∷ c ∷ d ∷ s) h = absurd (omega arith)
-
-key_is : (s t : List ℕ) → 0 < key t → key s ≡ key t → s ≡ t
-key_is s t h e =
-    let p = three s (omega arith) in
-    let q = three t h in
-    let p-is = p.is in
-    let q-is = q.is in
-    let x : p.a ≡ q.a = omega arith in
-    let y : p.b ≡ q.b = omega arith in
-    let z : p.c ≡ q.c = omega arith in
-    cc
-
-key_equal : (s t : List ℕ) → 0 < key t → eqb (key s) (key t) ≡ equal s t
-key_equal s t h = go (equal s t) refl
-  where
-    go : (p : Bool) → equal s t ≡ p → eqb (key s) (key t) ≡ p
-    go true e = eq-eqb (key s) (key t) (ap key (equal_is s t e))
-    go false e = ne_eqb (key s) (key t) (λ q. not_both (rw (key_is s t h q) (equal_refl t)) e)
-
--- the numbers of texts, each above 0, have that of s where the texts have s
-member_among : (s : List ℕ) (l : List (List ℕ)) (m : ℕ) → rising m (map key l) ≡ true → member (key s) (map key l) ≡ among s l
-unfolding member among rising
-member_among s [] m e = refl
-member_among s (t ∷ l) m e =
-    let b = both (ltb m (key t)) (rising (key t) (map key l)) e in
-    let h = ltb-true m (key t) b.0 in
-    rw (key_equal s t (omega arith), member_among s l (key t) b.1)
-
-member_listed : (s : List ℕ) → member (key s) keys ≡ listed s
-unfolding listed keys
-member_listed s = member_among s (map bytes currency_codes) 0 codes_ascend
-
--- a text of three bytes, which the code looks up by their number
-key_three : (s : List ℕ) → length s ≡ 3 → ((i : ℕ) → get_or s i 0 < 256) → (get_or s 0 0 * 256 + get_or s 1 0) * 256 + get_or s 2 0 ≡ key s
-unfolding key
-key_three [] h f = absurd (omega arith)
-key_three (a ∷ []) h f = absurd (omega arith)
-key_three (a ∷ b ∷ []) h f = absurd (omega arith)
-key_three (a ∷ b ∷ c ∷ []) h f = rw (lt-ltb a 256 (f 0), lt-ltb b 256 (f 1), lt-ltb c 256 (f 2))
-key_three (a ∷ b ∷ c ∷ d ∷ s) h f = absurd (omega arith)
-
-pub listed_three : (s : List ℕ) → length s ≡ 3 → ((i : ℕ) → get_or s i 0 < 256) → member ((get_or s 0 0 * 256 + get_or s 1 0) * 256 + get_or s 2 0) keys ≡ listed s
-listed_three s h f = rw (key_three s h f) (member_listed s)
-
--- a text of another length
-key_other : (s : List ℕ) → (length s ≡ 3 → ⊥) → key s ≡ 0
-unfolding key
-key_other [] n = refl
-key_other (a ∷ []) n = refl
-key_other (a ∷ b ∷ []) n = refl
-key_other (a ∷ b ∷ c ∷ []) n = absurd (n refl)
-key_other (a ∷ b ∷ c ∷ d ∷ s) n = refl
-
-pub listed_other : (s : List ℕ) → (length s ≡ 3 → ⊥) → false ≡ listed s
-listed_other s n = sym (sym (member_listed s) ∙ rw (key_other s n) (rising_none keys 0 codes_ascend))

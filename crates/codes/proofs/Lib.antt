@@ -1,5 +1,5 @@
-pub mod Ascending
 pub mod Currencies
+pub mod Meanings
 pub mod Bits
 pub mod Vats
 pub mod Containing

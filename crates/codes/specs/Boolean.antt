@@ -3,8 +3,7 @@ use Rattle.std.specs.Prelude.{Bool, true, false, List, [], ◌∷◌, ℕ}
 use Prim.Native.String.{String}
 use Rattle.text.specs.Answer.{Answer, read, says}
 use Rattle.codes.specs.CodeList.{meaning}
-use Rattle.codes.specs.declared.boolean.ParsedBoolean.{ParsedBoolean}
-use Rattle.codes.specs.declared.boolean.ParsedBoolean.TheVariants.{Boolean, Malformed}
+use Rattle.std.specs.Prelude.{Option, None, Some}
 
 -- the legal literals and their values (XML Schema part 2, 3.2.2.1)
 unfoldable pub literals : List (String × Bool)
@@ -15,6 +14,6 @@ unfoldable pub boolean_of : List ℕ → Answer Bool
 boolean_of s = meaning 18 literals s
 
 -- what an answer of `parse_boolean` says
-abbrev pub boolean_answer : ParsedBoolean → Answer Bool
-boolean_answer (Boolean b) = read b
-boolean_answer Malformed = says 18
+abbrev pub boolean_answer : Option Bool → Answer Bool
+boolean_answer (Some b) = read b
+boolean_answer None = says 18

@@ -1,4 +1,3 @@
-pub mod Ascending
 pub mod Currency
 pub mod CodeList
 pub mod VatPoint

@@ -3,8 +3,7 @@ use Rattle.std.specs.Prelude.{List, [], ◌∷◌, ℕ}
 use Prim.Native.String.{String}
 use Rattle.text.specs.Answer.{Answer, read, says}
 use Rattle.codes.specs.CodeList.{meaning}
-use Rattle.codes.specs.declared.vat_point.VatPointDateCode.{VatPointDateCode}
-use Rattle.codes.specs.declared.vat_point.VatPointDateCode.TheVariants.{Code, Unknown}
+use Rattle.std.specs.Prelude.{Option, None, Some}
 
 -- CII's codes (UNTDID 2475) and those of EN 16931 (UNTDID 2005): invoice issue date, actual delivery date, paid to date
 unfoldable pub vat_point_date_codes : List (String × ℕ)
@@ -15,6 +14,6 @@ unfoldable pub vat_point_date_code_of : List ℕ → Answer ℕ
 vat_point_date_code_of s = meaning 15 vat_point_date_codes s
 
 -- what an answer of `vat_point_date_code_from_cii` says
-abbrev pub vat_point_answer : VatPointDateCode → Answer ℕ
-vat_point_answer (Code n) = read n
-vat_point_answer Unknown = says 15
+abbrev pub vat_point_answer : Option ℕ → Answer ℕ
+vat_point_answer (Some n) = read n
+vat_point_answer None = says 15

@@ -14,10 +14,10 @@ mod rules;
 mod vat;
 mod vat_point;
 
-pub use boolean::{ParsedBoolean, parse_boolean};
+pub use boolean::parse_boolean;
 pub use conformant::is_conformant;
 pub use currency::is_currency;
 pub use date_format::is_date_format;
 pub use rules::{Rule, is_in_force};
 pub use vat::is_vat;
-pub use vat_point::{VatPointDateCode, vat_point_date_code_from_cii};
+pub use vat_point::vat_point_date_code_from_cii;

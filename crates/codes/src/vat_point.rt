@@ -2,25 +2,12 @@
 ghost use Rattle.std.specs.Prelude.{◌≡◌};
 ghost use Rattle.codes.specs.VatPoint.{vat_point_answer, vat_point_date_code_of};
 
-// The code of UNTDID 2005, or none.
-#[derive(Clone, Copy)]
-pub enum VatPointDateCode {
-    Code(u32),
-    Unknown,
-}
+// The codes of UNTDID 2475, with those of UNTDID 2005 that mean the same.
+const VAT_POINT_DATE_CODES: [(&[u8], u32); 3] = [(b"5", 3), (b"29", 35), (b"72", 432)];
 
 // The code of UNTDID 2005 that means what a code of UNTDID 2475 means.
-pub fn vat_point_date_code_from_cii(s: &[u8]) -> VatPointDateCode
+pub fn vat_point_date_code_from_cii(s: &[u8]) -> Option<u32>
     ensures { vat_point_answer result ≡ vat_point_date_code_of s.now }
 {
-    if text::same(s, b"5") {
-        return VatPointDateCode::Code(3);
-    }
-    if text::same(s, b"29") {
-        return VatPointDateCode::Code(35);
-    }
-    if text::same(s, b"72") {
-        return VatPointDateCode::Code(432);
-    }
-    VatPointDateCode::Unknown
+    text::meaning_of(&VAT_POINT_DATE_CODES, s)
 }

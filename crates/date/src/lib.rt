@@ -8,40 +8,26 @@ ghost use Rattle.std.specs.Prelude.{◌≡◌, cond};
 ghost use Rattle.date.specs.Date.{leap, days, is_day, numbered, date_of, parsed_date};
 ghost use Rattle.date.specs.Answers.{date_answer};
 
-use text::Numeral;
-
-// What a text says of a date: the number CCYYMMDD, that it is not CCYYMMDD, or that there is no
-// such day.
-#[derive(Clone, Copy)]
-pub enum ParsedDate {
-    Date(u32),
+// Why a text is no date: it is not CCYYMMDD, or there is no such day.
+#[derive(Clone, Copy, Debug, PartialEq, Eq)]
+pub enum DateError {
     Malformed,
     NotACalendarDay,
 }
 
 // Whether the year has a 29 February.
+#[tactic(auto, unfolding(crate::specs::Date::leap))]
 fn is_leap(year: u32) -> bool
     ensures { result ≡ leap year }
 {
-    let fourth = year % 4 == 0;
-    if fourth {
-        let century = year % 100 == 0;
-        if century {
-            return year % 400 == 0;
-        }
-        return true;
-    }
-    false
+    year % 4 == 0 && (year % 100 != 0 || year % 400 == 0)
 }
 
 // The length of February, which alone depends on the year.
 fn february(year: u32) -> u32
     ensures { result ≡ cond (leap year) 29 28 }
 {
-    if is_leap(year) {
-        return 29;
-    }
-    28
+    if is_leap(year) { 29 } else { 28 }
 }
 
 // The length of a month.
@@ -56,47 +42,38 @@ fn days_in_month(year: u32, month: u32) -> u32
 }
 
 // Whether the calendar has the day.
+#[tactic(auto, unfolding(crate::specs::Date::is_day))]
 fn is_day(year: u32, month: u32, day: u32) -> bool
     ensures { result ≡ is_day year month day }
 {
-    let first = 1 <= month;
-    if first {
-        let last = month <= 12;
-        if last {
-            let begun = 1 <= day;
-            if begun {
-                return day <= days_in_month(year, month);
-            }
-        }
-    }
-    false
+    text::is_within(month, 1, 12) && text::is_within(day, 1, days_in_month(year, month))
 }
 
 // The date whose number CCYYMMDD is n.
-fn from_number(n: u32) -> ParsedDate
+fn from_number(n: u32) -> Result<u32, DateError>
     ensures { date_answer result ≡ numbered n }
 {
     if is_day(n / 10000, n / 100 % 100, n % 100) {
-        return ParsedDate::Date(n);
+        return Ok(n);
     }
-    ParsedDate::NotACalendarDay
+    Err(DateError::NotACalendarDay)
 }
 
-// The date that the whole of t writes, for a text that is trimmed already: its number, parted.
-pub fn parse_trimmed(t: &[u8]) -> ParsedDate
+// The date that the whole of t writes, for a text that is trimmed already: its number CCYYMMDD, parted.
+pub fn parse_trimmed(t: &[u8]) -> Result<u32, DateError>
     ensures { date_answer result ≡ date_of t.now }
 {
     if t.len() != 8 {
-        return ParsedDate::Malformed;
+        return Err(DateError::Malformed);
     }
     match text::numeral_of(t, 8) {
-        Numeral::Number(n) => from_number(n),
-        Numeral::Unfit => ParsedDate::Malformed,
+        Some(n) => from_number(n),
+        None => Err(DateError::Malformed),
     }
 }
 
 // The date that s writes after it is trimmed in a mode.
-pub fn parse(s: &[u8], mode: u32) -> ParsedDate
+pub fn parse(s: &[u8], mode: u32) -> Result<u32, DateError>
     ensures { date_answer result ≡ parsed_date mode s.now }
 {
     parse_trimmed(characters::trimmed_text(s, mode))

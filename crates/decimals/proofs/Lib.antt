@@ -1,4 +1,4 @@
-pub mod Putting
 pub mod Spelling
 pub mod Signs
+pub mod Putting
 pub mod Room

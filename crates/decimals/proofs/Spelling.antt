@@ -1,18 +1,24 @@
 -- Laws of numbers in decimal digits.
 use mathlib.Core.Path.{◌≡◌, refl, sym, ap, ◌∙◌}
 use mathlib.Core.Bool.{Bool, true, false}
-use mathlib.Core.List.{List, [], ◌∷◌, ◌++◌, append_assoc}
+use mathlib.Core.List.{List, [], ◌∷◌, ◌++◌, append_assoc, map}
 use Prim.Native.Nat.{ℕ, zero, suc, ◌+◌, ◌-◌, ◌*◌, ◌/◌, ◌%◌, ◌^◌, ◌≤◌, ◌<◌}
 use native.Mathlib.Omega.{arith}
 use native.Mathlib.Nat.{pow-succ'}
 use borrow.Author.Tests.{lt-ltb, le-ltb, ltb-true, ltb-false}
 use lib.Dec.{ltb}
+use lib.IntN.{ℤ, pos, negsuc}
+use lib.Signed.{mag}
 use lib.ListN.{length, get_or, drop, set, length-append, get_or-append}
-use Rattle.std.proofs.lemmas.List.{drop-set}
+use Rattle.std.specs.Fmt as library
+use Rattle.std.specs.Int.Digits.{digits_of}
+use Rattle.std.proofs.lemmas.Fmt.{decimal-digits_of}
+use Rattle.std.proofs.lemmas.Int.Digits.{digits_of_step}
+use Rattle.std.proofs.lemmas.List.{drop-set, map-append}
 use Rattle.text.specs.Digits.{digit, all_digits, number}
 use Rattle.text.proofs.Digits.{number_append, all_append}
 use Rattle.text.proofs.Ranges.{within_yes}
-use Rattle.decimals.specs.Decimal.{spelled, decimal}
+use Rattle.decimals.specs.Decimal.{spelled, decimal, signed}
 
 -- one digit, and more
 module _ (f n : ℕ) where
@@ -64,6 +70,34 @@ module _ (n rest at : ℕ) (s : List ℕ) (h : at < length s) (p : decimal n ≡
 
   pub first_stored : rest < 10 → drop at (set s at (0x30 + rest)) ≡ decimal n
   first_stored m = drop-set s at (0x30 + rest) h ∙ sym (p ∙ ap (λ (t : List ℕ). t ++ drop (at + 1) s) (decimal_one rest m))
+
+-- they are those that the library writes
+digits_spelled : (f n : ℕ) → n < f → 0 < n → map (λ d. 48 + d) (digits_of 10 n) ≡ spelled f n
+digits_spelled zero n h p = absurd (omega arith)
+digits_spelled (suc f) n h p = go (ltb n 10) refl (digits_spelled f (n / 10))
+  where
+    step : map (λ d. 48 + d) (digits_of 10 n) ≡ map (λ d. 48 + d) (digits_of 10 (n / 10)) ++ ((48 + n % 10) ∷ [])
+    step = ap (map (λ d. 48 + d)) (digits_of_step 10 n (omega arith) p) ∙ map-append (λ d. 48 + d) (digits_of 10 (n / 10)) (n % 10 ∷ [])
+
+    go : (b : Bool) → ltb n 10 ≡ b → (n / 10 < f → 0 < n / 10 → map (λ d. 48 + d) (digits_of 10 (n / 10)) ≡ spelled f (n / 10)) → map (λ d. 48 + d) (digits_of 10 n) ≡ spelled (suc f) n
+    go true e r =
+        let m = ltb-true n 10 e in
+        let z : n / 10 ≡ 0 = omega arith in
+        let q : n % 10 ≡ n = omega arith in
+        step ∙ rw (z, q) (sym (spelled_one f n m))
+    go false e r =
+        let m = ltb-false n 10 e in
+        step ∙ rw (r (omega arith) (omega arith)) (sym (spelled_more f n m))
+
+pub decimal_written : (n : ℕ) → n < 2 ^ 64 → library.decimal n ≡ decimal n
+unfolding decimal spelled library.digits
+decimal_written zero h = refl
+decimal_written (suc n) h = decimal-digits_of (suc n) (omega arith) h ∙ digits_spelled (suc (suc n)) (suc n) (omega arith) (omega arith)
+
+pub signed_written : (z : ℤ) → mag z < 2 ^ 63 → library.signed_decimal z ≡ signed z
+unfolding signed
+signed_written (pos n) h = decimal_written n (omega arith)
+signed_written (negsuc n) h = ap (λ (s : List ℕ). 0x2D ∷ s) (decimal_written (suc n) (omega arith))
 
 -- one digit more
 number_one : (n d : ℕ) → number n ((0x30 + d) ∷ []) ≡ 10 * n + d

@@ -6,14 +6,12 @@ ghost use Rattle.report.specs.Placed.{Placed};
 pub fn put_bytes(out: &mut [u8], at: usize, s: &[u8]) -> usize
     ensures { Placed out.old at s.now out.new result }
 {
-    let n = labels::put_bytes(out, at, s);
-    report::behind(out.len(), at, n)
+    report::put_row(out, at, s)
 }
 
 // The same for one byte.
 pub fn put_byte(out: &mut [u8], at: usize, b: u8) -> usize
     ensures { Placed out.old at (b ∷ []) out.new result }
 {
-    let s = [b];
-    put_bytes(out, at, &s)
+    put_bytes(out, at, &[b])
 }

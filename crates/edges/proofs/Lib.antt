@@ -1,3 +1,3 @@
 pub mod Backs
+pub mod Named
 pub mod Parts
-pub mod Signs

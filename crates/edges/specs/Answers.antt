@@ -1,10 +1,8 @@
 -- What is printed of a case: the numbers of the definitions' answers, document 01's message first.
-use Rattle.std.specs.Prelude.{Bool, cond, ◌&&◌, List, [], ◌∷◌, ltb, eqb, ℤ, pos, negsuc, length, get_or, take, drop}
+use Rattle.std.specs.Prelude.{Bool, cond, List, [], ◌∷◌, ltb, ℤ, pos, negsuc, length, get_or, take, drop}
 use Rattle.std.proofs.Math.Option.{Option, none, some}
 use Prim.Native.Nat.{ℕ, ◌/◌, ◌%◌, Ordering}
 use Prim.Native.String.{String}
-use Rattle.std.specs.Int.{w64}
-use Rattle.std.proofs.Common.{of_z}
 use Rattle.text.specs.declared.span.Span.{Span}
 use Rattle.text.specs.Answer.{Answer}
 use Rattle.text.specs.Digits.{digit}
@@ -23,28 +21,24 @@ use Rattle.codes.specs.DateFormat.{date_format}
 use Rattle.codes.specs.Rules.{in_force}
 use Rattle.codes.specs.Vat.{vat}
 use Rattle.codes.specs.VatPoint.{vat_point_date_code_of}
+use Rattle.codes.specs.declared.rules.Rule as law
 use Rattle.codes.specs.declared.rules.Rule.TheVariants.{Br12, Br13, Br14, Br15, Br31, Br32, Br36, Br37, Br45, Br46, Br47, Br55}
 use Rattle.edges.specs.declared.answers.Numbers.{Numbers}
-use Rattle.edges.specs.declared.answers.NamedRule.{NamedRule}
-use Rattle.edges.specs.declared.answers.NamedRule.TheVariants.{Named, Missing}
+use Rattle.edges.specs.declared.answers.Numbers.TheVariants.{Nothing, One, Two, Three}
 use Rattle.edges.specs.declared.leaves.Leaf.{Leaf}
 use Rattle.edges.specs.declared.leaves.Leaf.TheVariants.{Utf8, Trim, Digit, Same, Compare, Part, Amount, Percentage, Date, Currency, Vat, Conformant, Format, Point, Boolean, Rule}
+use Rattle.std.specs.declared.option.Option as code
+use Rattle.std.specs.Prelude.{None, Some}
 
--- up to three numbers, 0 for each that is not there
+-- up to three numbers
 abbrev pub numbers : List ℤ → Numbers
-numbers [] = record { count = 0; first = pos 0; second = pos 0; third = pos 0 }
-numbers (a ∷ []) = record { count = 1; first = a; second = pos 0; third = pos 0 }
-numbers (a ∷ b ∷ []) = record { count = 2; first = a; second = b; third = pos 0 }
-numbers (a ∷ b ∷ c ∷ s) = record { count = 3; first = a; second = b; third = c }
-
--- two signed numbers of 64 bits are the same where their bits are
-unfoldable pub alike : Numbers → Numbers → Bool
-alike a b =
-    eqb a.count b.count && (eqb (of_z w64 a.first) (of_z w64 b.first) &&
-    (eqb (of_z w64 a.second) (of_z w64 b.second) && eqb (of_z w64 a.third) (of_z w64 b.third)))
+numbers [] = Nothing
+numbers (a ∷ []) = One a
+numbers (a ∷ b ∷ []) = Two a b
+numbers (a ∷ b ∷ c ∷ s) = Three a b c
 
 -- 1 where it holds
-unfoldable pub truth : Bool → ℤ
+abbrev pub truth : Bool → ℤ
 truth b = cond b (pos 1) (pos 0)
 
 abbrev pub places : Span → List ℤ
@@ -84,18 +78,18 @@ abbrev pub boolean_numbers : Answer Bool → List ℤ
 boolean_numbers a = said (λ (b : Bool). truth b ∷ []) a
 
 -- the rules by their numbers (document 01, "From the tree to the table")
-unfoldable pub rules : List (String × NamedRule)
+unfoldable pub rules : List (String × code.Option law.Rule)
 rules =
-    ("12", Named Br12) ∷ ("13", Named Br13) ∷ ("14", Named Br14) ∷ ("15", Named Br15) ∷ ("31", Named Br31) ∷ ("32", Named Br32) ∷
-    ("36", Named Br36) ∷ ("37", Named Br37) ∷ ("45", Named Br45) ∷ ("46", Named Br46) ∷ ("47", Named Br47) ∷ ("55", Named Br55) ∷ []
+    ("12", Some Br12) ∷ ("13", Some Br13) ∷ ("14", Some Br14) ∷ ("15", Some Br15) ∷ ("31", Some Br31) ∷ ("32", Some Br32) ∷
+    ("36", Some Br36) ∷ ("37", Some Br37) ∷ ("45", Some Br45) ∷ ("46", Some Br46) ∷ ("47", Some Br47) ∷ ("55", Some Br55) ∷ []
 
-unfoldable pub rule_of : List ℕ → NamedRule
-rule_of s = meant Missing rules s
+unfoldable pub rule_of : List ℕ → code.Option law.Rule
+rule_of s = meant None rules s
 
 -- whether a rule is in force, and no number where there is no such rule
-abbrev pub rule_numbers : ℕ → NamedRule → List ℤ
-rule_numbers n (Named r) = truth (in_force n r) ∷ []
-rule_numbers n Missing = []
+abbrev pub rule_numbers : ℕ → code.Option law.Rule → List ℤ
+rule_numbers n (Some r) = truth (in_force n r) ∷ []
+rule_numbers n None = []
 
 -- the numbers of a case
 abbrev pub answer_of : Leaf → ℕ → List ℕ → List ℤ

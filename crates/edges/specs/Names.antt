@@ -1,14 +1,13 @@
--- The names of the leaves.
-use Rattle.std.specs.Prelude.{List, [], ◌∷◌}
+-- The leaves by their names.
+use Rattle.std.specs.Prelude.{List, [], ◌∷◌, Option, Some}
 use Prim.Native.String.{String}
-use Rattle.edges.specs.declared.leaves.NamedLeaf.{NamedLeaf}
-use Rattle.edges.specs.declared.leaves.NamedLeaf.TheVariants.{Named}
 use Rattle.edges.specs.declared.leaves.Leaf.TheVariants.{Utf8, Trim, Digit, Same, Compare, Part, Amount, Percentage, Date, Currency, Vat, Conformant, Format, Point, Boolean, Rule}
+use Rattle.edges.specs.declared.leaves.Leaf.{Leaf}
 
 -- the leaves of texts, numbers and dates, and those of codes
-unfoldable pub leaves : List (String × NamedLeaf)
+unfoldable pub leaves : List (String × Option Leaf)
 leaves =
-    ("utf8", Named Utf8) ∷ ("trim", Named Trim) ∷ ("digit", Named Digit) ∷ ("same", Named Same) ∷ ("compare", Named Compare) ∷ ("part", Named Part) ∷
-    ("amount", Named Amount) ∷ ("percentage", Named Percentage) ∷ ("date", Named Date) ∷
-    ("currency", Named Currency) ∷ ("vat", Named Vat) ∷ ("conformant", Named Conformant) ∷ ("format", Named Format) ∷ ("point", Named Point) ∷
-    ("boolean", Named Boolean) ∷ ("rule", Named Rule) ∷ []
+    ("utf8", Some Utf8) ∷ ("trim", Some Trim) ∷ ("digit", Some Digit) ∷ ("same", Some Same) ∷ ("compare", Some Compare) ∷ ("part", Some Part) ∷
+    ("amount", Some Amount) ∷ ("percentage", Some Percentage) ∷ ("date", Some Date) ∷
+    ("currency", Some Currency) ∷ ("vat", Some Vat) ∷ ("conformant", Some Conformant) ∷ ("format", Some Format) ∷ ("point", Some Point) ∷
+    ("boolean", Some Boolean) ∷ ("rule", Some Rule) ∷ []

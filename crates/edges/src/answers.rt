@@ -8,258 +8,164 @@ ghost use Rattle.date.specs.Answers.{date_answer};
 ghost use Rattle.codes.specs.VatPoint.{vat_point_answer};
 ghost use Rattle.codes.specs.Boolean.{boolean_answer};
 ghost use Rattle.cases.specs.Symbols.{filled};
-ghost use Rattle.edges.specs.Answers.{numbers, alike, truth, places, sign, first_byte, part_numbers, amount_numbers, percentage_numbers, natural_numbers, boolean_numbers, rule_of, rule_numbers, answer_of};
+ghost use Rattle.edges.specs.Answers.{numbers, truth, places, sign, first_byte, part_numbers, amount_numbers, percentage_numbers, natural_numbers, boolean_numbers, rule_of, rule_numbers, answer_of};
 
 use crate::leaves::Leaf;
-use amount::{InvoiceAmount, ParsedAmount, ParsedPercentage, Percentage};
-use codes::{ParsedBoolean, Rule, VatPointDateCode};
-use date::ParsedDate;
-use text::Ordering;
+use amount::{AmountError, InvoiceAmount, Percentage, PercentageError};
+use codes::Rule;
+use date::DateError;
+use std::cmp::Ordering;
 
-// Up to three numbers; those that are not there are 0.
-#[derive(Clone, Copy)]
-pub(crate) struct Numbers {
-    pub count: u32,
-    pub first: i64,
-    pub second: i64,
-    pub third: i64,
-}
-
-// The rule that a text names.
-#[derive(Clone, Copy)]
-enum NamedRule {
-    Named(Rule),
-    Missing,
-}
-
-fn nothing() -> Numbers
-    ensures { result ≡ numbers [] }
-{
-    Numbers {
-        count: 0,
-        first: 0,
-        second: 0,
-        third: 0,
-    }
-}
-
-fn one(a: i64) -> Numbers
-    ensures { result ≡ numbers (a ∷ []) }
-{
-    Numbers {
-        count: 1,
-        first: a,
-        second: 0,
-        third: 0,
-    }
-}
-
-fn two(a: i64, b: i64) -> Numbers
-    ensures { result ≡ numbers (a ∷ b ∷ []) }
-{
-    Numbers {
-        count: 2,
-        first: a,
-        second: b,
-        third: 0,
-    }
-}
-
-fn three(a: i64, b: i64, c: i64) -> Numbers
-    ensures { result ≡ numbers (a ∷ b ∷ c ∷ []) }
-{
-    Numbers {
-        count: 3,
-        first: a,
-        second: b,
-        third: c,
-    }
-}
-
-// Whether two answers are the same.
-pub(crate) fn same_numbers(a: Numbers, b: Numbers) -> bool
-    ensures { result ≡ alike a b }
-{
-    let count = a.count == b.count;
-    if count {
-        let first = a.first == b.first;
-        if first {
-            let second = a.second == b.second;
-            if second {
-                return a.third == b.third;
-            }
-        }
-    }
-    false
-}
-
-fn wide(n: u32) -> i64
-    ensures { result ≡ pos n }
-{
-    n as i64
-}
-
-fn truth_of(b: bool) -> i64
-    ensures { result ≡ truth b }
-{
-    if b {
-        return 1;
-    }
-    0
+// Up to three numbers.
+#[derive(Clone, Copy, PartialEq, Eq)]
+pub(crate) enum Numbers {
+    Nothing,
+    One(i64),
+    Two(i64, i64),
+    Three(i64, i64, i64),
 }
 
 fn of_trim(s: &[u8], mode: u32) -> Numbers
     ensures { result ≡ numbers (places (trimmed mode s.now)) }
 {
     let t = characters::trim(s, mode);
-    two(t.start as i64, t.end as i64)
+    Numbers::Two(t.start as i64, t.end as i64)
 }
 
-// The first n bytes of s, or all.
-fn head(s: &[u8], n: usize) -> &[u8]
-    ensures { result.now ≡ take n s.now }
+// The first n bytes of s, or all, and those after them.
+fn halves(s: &[u8], n: u32) -> (&[u8], &[u8])
+    ensures first { result.0.now ≡ take n s.now }
+    ensures second { result.1.now ≡ drop n s.now }
 {
-    if n < s.len() {
-        return &s[0..n];
-    }
-    s
-}
-
-// The bytes of s after the first n.
-fn tail(s: &[u8], n: usize) -> &[u8]
-    ensures { result.now ≡ drop n s.now }
-{
-    if n < s.len() {
-        return &s[n..];
-    }
-    &s[0..0]
+    s.split_at((n as usize).min(s.len()))
 }
 
 fn of_same(s: &[u8], n: u32) -> Numbers
     ensures { result ≡ numbers (truth (equal (take n s.now) (drop n s.now)) ∷ []) }
 {
-    let k = n as usize;
-    one(truth_of(text::same(head(s, k), tail(s, k))))
+    let (first, second) = halves(s, n);
+    Numbers::One(i64::from(text::same(first, second)))
 }
 
 fn of_ordering(o: Ordering) -> Numbers
     ensures { result ≡ numbers (sign (ordering o) ∷ []) }
 {
     match o {
-        Ordering::Less => one(-1),
-        Ordering::Equal => one(0),
-        Ordering::Greater => one(1),
+        Ordering::Less => Numbers::One(-1),
+        Ordering::Equal => Numbers::One(0),
+        Ordering::Greater => Numbers::One(1),
     }
 }
 
 fn of_compare(s: &[u8], n: u32) -> Numbers
     ensures { result ≡ numbers (sign (order (take n s.now) (drop n s.now)) ∷ []) }
 {
-    let k = n as usize;
-    of_ordering(text::compare(head(s, k), tail(s, k)))
+    let (first, second) = halves(s, n);
+    of_ordering(text::compare(first, second))
 }
 
 // The first byte of s, and -1 where there is none.
+#[tactic(auto, unfolding(crate::specs::Answers::first_byte))]
 fn first_byte(s: &[u8]) -> i64
     ensures { result ≡ first_byte s.now }
 {
-    if 0 < s.len() {
-        return s[0] as i64;
+    match s {
+        [b, ..] => i64::from(*b),
+        [] => -1,
     }
-    -1
 }
 
 fn of_part(s: &[u8], n: u32) -> Numbers
     ensures { result ≡ numbers (part_numbers (part_of s.now (n / 1000) (n % 1000))) }
 {
     let p = text::part(s, (n / 1000) as usize, (n % 1000) as usize);
-    two(p.len() as i64, first_byte(p))
+    Numbers::Two(p.len() as i64, first_byte(p))
 }
 
-fn of_amount(p: ParsedAmount) -> Numbers
+fn of_amount(p: Result<InvoiceAmount, AmountError>) -> Numbers
     ensures { result ≡ numbers (amount_numbers (amount_answer p)) }
 {
     match p {
-        ParsedAmount::Amount(a) => two(0, a.to_minor_units()),
-        ParsedAmount::Empty => one(0),
-        ParsedAmount::Malformed => one(3),
-        ParsedAmount::TooManyDecimals => one(4),
-        ParsedAmount::OutOfRange => one(5),
+        Ok(a) => Numbers::Two(0, a.to_minor_units()),
+        Err(AmountError::Empty) => Numbers::One(0),
+        Err(AmountError::Malformed) => Numbers::One(3),
+        Err(AmountError::TooManyDecimals) => Numbers::One(4),
+        Err(AmountError::OutOfRange) => Numbers::One(5),
     }
 }
 
 fn of_rate(p: Percentage) -> Numbers
     ensures { result ≡ numbers (pos 0 ∷ p.unscaled ∷ pos p.scale ∷ []) }
 {
-    three(0, p.to_unscaled(), wide(p.to_scale()))
+    Numbers::Three(0, p.to_unscaled(), i64::from(p.to_scale()))
 }
 
-fn of_percentage(p: ParsedPercentage) -> Numbers
+fn of_percentage(p: Result<Percentage, PercentageError>) -> Numbers
     ensures { result ≡ numbers (percentage_numbers (percentage_answer p)) }
 {
     match p {
-        ParsedPercentage::Percentage(a) => of_rate(a),
-        ParsedPercentage::Malformed => one(6),
-        ParsedPercentage::TooPrecise => one(7),
+        Ok(a) => of_rate(a),
+        Err(PercentageError::Malformed) => Numbers::One(6),
+        Err(PercentageError::TooPrecise) => Numbers::One(7),
     }
 }
 
-fn of_date(p: ParsedDate) -> Numbers
+fn of_date(p: Result<u32, DateError>) -> Numbers
     ensures { result ≡ numbers (natural_numbers (date_answer p)) }
 {
     match p {
-        ParsedDate::Date(n) => two(0, wide(n)),
-        ParsedDate::Malformed => one(12),
-        ParsedDate::NotACalendarDay => one(13),
+        Ok(n) => Numbers::Two(0, i64::from(n)),
+        Err(DateError::Malformed) => Numbers::One(12),
+        Err(DateError::NotACalendarDay) => Numbers::One(13),
     }
 }
 
-fn of_point(p: VatPointDateCode) -> Numbers
+fn of_point(p: Option<u32>) -> Numbers
     ensures { result ≡ numbers (natural_numbers (vat_point_answer p)) }
 {
     match p {
-        VatPointDateCode::Code(n) => two(0, wide(n)),
-        VatPointDateCode::Unknown => one(15),
+        Some(n) => Numbers::Two(0, i64::from(n)),
+        None => Numbers::One(15),
     }
 }
 
-fn of_boolean(p: ParsedBoolean) -> Numbers
+fn of_boolean(p: Option<bool>) -> Numbers
     ensures { result ≡ numbers (boolean_numbers (boolean_answer p)) }
 {
     match p {
-        ParsedBoolean::Boolean(b) => two(0, truth_of(b)),
-        ParsedBoolean::Malformed => one(18),
+        Some(b) => Numbers::Two(0, i64::from(b)),
+        None => Numbers::One(18),
     }
 }
+
+const RULES: [(&[u8], Rule); 12] = [
+    (b"12", Rule::Br12),
+    (b"13", Rule::Br13),
+    (b"14", Rule::Br14),
+    (b"15", Rule::Br15),
+    (b"31", Rule::Br31),
+    (b"32", Rule::Br32),
+    (b"36", Rule::Br36),
+    (b"37", Rule::Br37),
+    (b"45", Rule::Br45),
+    (b"46", Rule::Br46),
+    (b"47", Rule::Br47),
+    (b"55", Rule::Br55),
+];
 
 // The rule of a text.
-fn rule_of(s: &[u8]) -> NamedRule
+fn rule_of(s: &[u8]) -> Option<Rule>
     ensures { result ≡ rule_of s.now }
 {
-    let names = b"\x0212\x0213\x0214\x0215\x0231\x0232\x0236\x0237\x0245\x0246\x0247\x0255";
-    match text::place_of(names, s) {
-        0 => NamedRule::Named(Rule::Br12),
-        1 => NamedRule::Named(Rule::Br13),
-        2 => NamedRule::Named(Rule::Br14),
-        3 => NamedRule::Named(Rule::Br15),
-        4 => NamedRule::Named(Rule::Br31),
-        5 => NamedRule::Named(Rule::Br32),
-        6 => NamedRule::Named(Rule::Br36),
-        7 => NamedRule::Named(Rule::Br37),
-        8 => NamedRule::Named(Rule::Br45),
-        9 => NamedRule::Named(Rule::Br46),
-        10 => NamedRule::Named(Rule::Br47),
-        11 => NamedRule::Named(Rule::Br55),
-        _ => NamedRule::Missing,
-    }
+    text::meaning_of(&RULES, s)
 }
 
-fn of_rule(rules: u32, named: NamedRule) -> Numbers
+fn of_rule(rules: u32, named: Option<Rule>) -> Numbers
     ensures { result ≡ numbers (rule_numbers rules named) }
 {
     match named {
-        NamedRule::Named(rule) => one(truth_of(codes::is_in_force(rules, rule))),
-        NamedRule::Missing => nothing(),
+        Some(rule) => Numbers::One(i64::from(codes::is_in_force(rules, rule))),
+        None => Numbers::Nothing,
     }
 }
 
@@ -268,19 +174,19 @@ fn answer(leaf: Leaf, n: u32, s: &[u8]) -> Numbers
     ensures { result ≡ numbers (answer_of leaf n s.now) }
 {
     match leaf {
-        Leaf::Utf8 => one(truth_of(characters::is_utf8(s))),
+        Leaf::Utf8 => Numbers::One(i64::from(characters::is_utf8(s))),
         Leaf::Trim => of_trim(s, n),
-        Leaf::Digit => one(truth_of(text::is_digit(cases::byte_at(s, 0)))),
+        Leaf::Digit => Numbers::One(i64::from(text::is_digit(cases::byte_at(s, 0)))),
         Leaf::Same => of_same(s, n),
         Leaf::Compare => of_compare(s, n),
         Leaf::Part => of_part(s, n),
         Leaf::Amount => of_amount(InvoiceAmount::parse(s, n)),
         Leaf::Percentage => of_percentage(Percentage::parse(s, n)),
         Leaf::Date => of_date(date::parse(s, n)),
-        Leaf::Currency => one(truth_of(codes::is_currency(s))),
-        Leaf::Vat => one(truth_of(codes::is_vat(s))),
-        Leaf::Conformant => one(truth_of(codes::is_conformant(s))),
-        Leaf::Format => one(truth_of(codes::is_date_format(s))),
+        Leaf::Currency => Numbers::One(i64::from(codes::is_currency(s))),
+        Leaf::Vat => Numbers::One(i64::from(codes::is_vat(s))),
+        Leaf::Conformant => Numbers::One(i64::from(codes::is_conformant(s))),
+        Leaf::Format => Numbers::One(i64::from(codes::is_date_format(s))),
         Leaf::Point => of_point(codes::vat_point_date_code_from_cii(s)),
         Leaf::Boolean => of_boolean(codes::parse_boolean(s)),
         Leaf::Rule => of_rule(n, rule_of(s)),

@@ -1,5 +1,5 @@
 // The leaf functions that cases are run on, by name.
-ghost use Rattle.std.specs.Prelude.{◌≡◌};
+ghost use Rattle.std.specs.Prelude.{◌≡◌, None};
 ghost use Rattle.text.specs.Place.{meant};
 ghost use Rattle.edges.specs.Names.{leaves};
 
@@ -24,50 +24,28 @@ pub(crate) enum Leaf {
     Rule,
 }
 
-// What a name stands for.
-#[derive(Clone, Copy)]
-pub(crate) enum NamedLeaf {
-    Named(Leaf),
-    Unknown,
-}
+const LEAVES: [(&[u8], Leaf); 16] = [
+    (b"utf8", Leaf::Utf8),
+    (b"trim", Leaf::Trim),
+    (b"digit", Leaf::Digit),
+    (b"same", Leaf::Same),
+    (b"compare", Leaf::Compare),
+    (b"part", Leaf::Part),
+    (b"amount", Leaf::Amount),
+    (b"percentage", Leaf::Percentage),
+    (b"date", Leaf::Date),
+    (b"currency", Leaf::Currency),
+    (b"vat", Leaf::Vat),
+    (b"conformant", Leaf::Conformant),
+    (b"format", Leaf::Format),
+    (b"point", Leaf::Point),
+    (b"boolean", Leaf::Boolean),
+    (b"rule", Leaf::Rule),
+];
 
 // The leaf of a name.
-pub(crate) fn leaf_of(name: &[u8]) -> NamedLeaf
-    ensures { result ≡ meant NamedLeaf.Unknown leaves name.now }
+pub(crate) fn leaf_of(name: &[u8]) -> Option<Leaf>
+    ensures { result ≡ meant None leaves name.now }
 {
-    let names = b"\x04utf8\
-        \x04trim\
-        \x05digit\
-        \x04same\
-        \x07compare\
-        \x04part\
-        \x06amount\
-        \x0apercentage\
-        \x04date\
-        \x08currency\
-        \x03vat\
-        \x0aconformant\
-        \x06format\
-        \x05point\
-        \x07boolean\
-        \x04rule";
-    match text::place_of(names, name) {
-        0 => NamedLeaf::Named(Leaf::Utf8),
-        1 => NamedLeaf::Named(Leaf::Trim),
-        2 => NamedLeaf::Named(Leaf::Digit),
-        3 => NamedLeaf::Named(Leaf::Same),
-        4 => NamedLeaf::Named(Leaf::Compare),
-        5 => NamedLeaf::Named(Leaf::Part),
-        6 => NamedLeaf::Named(Leaf::Amount),
-        7 => NamedLeaf::Named(Leaf::Percentage),
-        8 => NamedLeaf::Named(Leaf::Date),
-        9 => NamedLeaf::Named(Leaf::Currency),
-        10 => NamedLeaf::Named(Leaf::Vat),
-        11 => NamedLeaf::Named(Leaf::Conformant),
-        12 => NamedLeaf::Named(Leaf::Format),
-        13 => NamedLeaf::Named(Leaf::Point),
-        14 => NamedLeaf::Named(Leaf::Boolean),
-        15 => NamedLeaf::Named(Leaf::Rule),
-        _ => NamedLeaf::Unknown,
-    }
+    text::meaning_of(&LEAVES, name)
 }

@@ -14,28 +14,29 @@
 mod answers;
 mod leaves;
 
-use crate::answers::{Numbers, answer_at, same_numbers};
-use crate::leaves::{Leaf, NamedLeaf, leaf_of};
-use cases::{find, holes};
+use crate::answers::{Numbers, answer_at};
+use crate::leaves::{Leaf, leaf_of};
+use cases::holes;
 use std::io;
-use text::{Numeral, numeral_of};
+use std::io::{BufRead, BufReader};
+use text::numeral_of;
+
+// A leaf function, the number that it takes, and a text as it is written.
+#[derive(Clone, Copy)]
+struct Case<'a> {
+    leaf: Leaf,
+    number: u32,
+    text: &'a [u8],
+}
 
 // The numbers of an answer, parted by a separator, and a question mark where there are none.
 fn print_answer(rt: &impl Print, a: Numbers, separator: &str) -> io::Result<()> {
-    let count = a.count;
-    if count == 0 {
-        return rt.print("?");
+    match a {
+        Numbers::Nothing => rt.print("?"),
+        Numbers::One(a) => rt.print(a),
+        Numbers::Two(a, b) => print!(rt; "{a}{separator}{b}"),
+        Numbers::Three(a, b, c) => print!(rt; "{a}{separator}{b}{separator}{c}"),
     }
-    rt.print(a.first)?;
-    if 1 < count {
-        rt.print(separator)?;
-        rt.print(a.second)?;
-    }
-    if 2 < count {
-        rt.print(separator)?;
-        rt.print(a.third)?;
-    }
-    Ok(())
 }
 
 // The bytes from first to last, which have the same answer.
@@ -49,24 +50,16 @@ fn print_run(rt: &impl Print, first: u8, last: u8, a: Numbers) -> io::Result<()>
 }
 
 // The answers for each byte in the hole, by runs of bytes with the same one.
-fn print_runs(
-    rt: &impl Print,
-    leaf: Leaf,
-    number: u32,
-    s: &[u8],
-    space: &mut [u8],
-) -> io::Result<()> {
+fn print_runs(rt: &impl Print, case: Case<'_>, space: &mut [u8]) -> io::Result<()> {
     let mut first = 0;
-    let mut held = answer_at(leaf, number, s, 0, space);
-    let mut b = 0;
-    while b < 255 {
-        let a = answer_at(leaf, number, s, b + 1, space);
-        if !same_numbers(held, a) {
-            print_run(rt, first, b, held)?;
-            first = b + 1;
+    let mut held = answer_at(case.leaf, case.number, case.text, 0, space);
+    for b in 1..=255 {
+        let a = answer_at(case.leaf, case.number, case.text, b, space);
+        if a != held {
+            print_run(rt, first, b - 1, held)?;
+            first = b;
             held = a;
         }
-        b += 1;
     }
     print_run(rt, first, 255, held)
 }
@@ -76,85 +69,44 @@ fn print_unfit(rt: &impl Print, line: &[u8]) -> io::Result<()> {
     rt.write_all(line)
 }
 
-// A case with its answers.
-fn print_case(
-    rt: &impl Print,
-    line: &[u8],
-    leaf: Leaf,
-    number: u32,
-    s: &[u8],
-    space: &mut [u8],
-) -> io::Result<()> {
-    match holes(s) {
+// The line of a case with its answers.
+fn print_case(rt: &impl Print, line: &[u8], case: Case<'_>, space: &mut [u8]) -> io::Result<()> {
+    match holes(case.text) {
         0 => {
             rt.write_all(line)?;
             rt.print(" = ")?;
-            print_answer(rt, answer_at(leaf, number, s, 0, space), " ")
+            let a = answer_at(case.leaf, case.number, case.text, 0, space);
+            print_answer(rt, a, " ")
         }
         1 => {
             rt.write_all(line)?;
             rt.print(" =")?;
-            print_runs(rt, leaf, number, s, space)
+            print_runs(rt, case, space)
         }
         _ => print_unfit(rt, line),
     }
 }
 
-// A line of three parts.
-fn print_parts(
-    rt: &impl Print,
-    line: &[u8],
-    name: NamedLeaf,
-    number: Numeral,
-    s: &[u8],
-    space: &mut [u8],
-) -> io::Result<()> {
-    match name {
-        NamedLeaf::Named(leaf) => match number {
-            Numeral::Number(n) => print_case(rt, line, leaf, n, s, space),
-            Numeral::Unfit => print_unfit(rt, line),
-        },
-        NamedLeaf::Unknown => print_unfit(rt, line),
-    }
-}
-
 fn print_line(rt: &impl Print, line: &[u8], space: &mut [u8]) -> io::Result<()> {
-    let end = line.len();
-    let a = find(line, 0, b' ');
-    if a == end {
+    let mut parts = line.splitn(3, |b| *b == b' ');
+    let (Some(name), Some(digits), Some(text)) = (parts.next(), parts.next(), parts.next()) else {
         return print_unfit(rt, line);
-    }
-    let after = a + 1;
-    let b = find(line, after, b' ');
-    if b == end {
+    };
+    let (Some(leaf), Some(number)) = (leaf_of(name), numeral_of(digits, 10)) else {
         return print_unfit(rt, line);
-    }
-    let last = b + 1;
-    print_parts(
-        rt,
-        line,
-        leaf_of(&line[0..a]),
-        numeral_of(&line[after..b], 10),
-        &line[last..],
-        space,
-    )
+    };
+    let case = Case { leaf, number, text };
+    print_case(rt, line, case, space)
 }
 
-// Each line of the input, of which the last may lack its line feed.
-fn print_lines(rt: &impl Print, input: &[u8], space: &mut [u8]) -> io::Result<()> {
-    let mut from = 0;
-    while from < input.len() {
-        let end = find(input, from, b'\n');
-        print_line(rt, &input[from..end], space)?;
+// Each line of the input, of which the last may lack its line feed. The space has room for its bytes.
+fn main(rt: HostRuntime) -> io::Result<()> {
+    let mut space = Vec::new(rt.alloc());
+    for line in BufReader::new(rt.alloc(), rt.stdin())?.split(rt.alloc(), b'\n') {
+        let line = line?;
+        space.resize(line.len(), 0)?;
+        print_line(&rt, &line, &mut space)?;
         rt.print("\n")?;
-        from = end + 1;
     }
     Ok(())
-}
-
-fn main(rt: HostRuntime) -> io::Result<()> {
-    let mut input = [0u8; 262144];
-    let mut space = [0u8; 262144];
-    let n = cases::read_full(&mut rt.stdin(), &mut input)?;
-    print_lines(&rt, &input[..n], &mut space)
 }

@@ -2,35 +2,54 @@
 ghost use Rattle.std.specs.Prelude.{◌≡◌};
 ghost use Rattle.std.proofs.Math.Option.{none};
 ghost use Rattle.table.specs.Table.{found};
+ghost use Rattle.links.specs.Siblings.{siblings};
 ghost use Rattle.report.specs.Values.{text_of};
 ghost use Rattle.settlement.specs.Document.{maybe};
 ghost use Rattle.settlement.specs.Values as reading;
-ghost use Rattle.element.specs.LinkDoc.{link_doc};
+ghost use Rattle.element.specs.LinkDoc.{doc_of, firsts_of};
 
-use crate::texts::text_in;
-use report::Text;
+use crate::document::Document;
+use links::Siblings;
+use report::Place;
 
-// The first child of a name of element n, and 0 where there is none: record 0 is nobody's child.
-pub fn kid(table: &[u32], text: &[u8], links: &[u16], n: usize, want: &[u8]) -> usize
-    ensures { found result ≡ reading.kid (link_doc table.now text.now links.now) n want.now }
-{
-    links::first_child(table, text, links, n, want)
-}
-
-// The text of a child that was looked for, trimmed in a mode; absent where there is no such child or its
-// text is blank.
-pub fn child_text(table: &[u32], text: &[u8], links: &[u16], mode: u32, c: usize) -> Text
-    ensures { text_of result ≡ maybe none (reading.text_in (link_doc table.now text.now links.now) mode) (found c) }
-{
-    if c == 0 {
-        return Text::Absent;
+impl<'a> Document<'a> {
+    // The first child of a name of element n, and 0 where there is none: record 0 is nobody's child.
+    pub fn kid(&self, n: usize, want: &[u8]) -> usize
+        ensures { found result ≡ reading.kid (doc_of self.now) n want.now }
+    {
+        links::first_child(self.table, self.text, self.links, n, want)
     }
-    text_in(table, text, links, mode, c)
-}
 
-// The text of the first child of a name of element n.
-pub fn kid_text(table: &[u32], text: &[u8], links: &[u16], mode: u32, n: usize, want: &[u8]) -> Text
-    ensures { text_of result ≡ reading.kid_text (link_doc table.now text.now links.now) mode n want.now }
-{
-    child_text(table, text, links, mode, kid(table, text, links, n, want))
+    // The children of element n, in document order.
+    pub fn kids(&self, n: usize) -> Siblings<'a>
+        ensures { siblings result ≡ (doc_of self.now).kids n }
+    {
+        links::children(self.links, n)
+    }
+
+    // The text of a child that was looked for, trimmed in a mode; absent where there is no such child or its
+    // text is blank.
+    pub fn child_text(&self, mode: u32, c: usize) -> Option<Place>
+        ensures { text_of result ≡ maybe none (reading.text_in (doc_of self.now) mode) (found c) }
+    {
+        if c == 0 {
+            return None;
+        }
+        self.text_in(mode, c)
+    }
+
+    // The text of the first child of a name of element n.
+    pub fn kid_text(&self, mode: u32, n: usize, want: &[u8]) -> Option<Place>
+        ensures { text_of result ≡ reading.kid_text (doc_of self.now) mode n want.now }
+    {
+        self.child_text(mode, self.kid(n, want))
+    }
+
+    // The first child of each of some names of element n, put at the name's place in an array lent with zeros,
+    // which stay where there is none. The names stand in a row, each after its length.
+    pub fn first_children(&self, n: usize, names: &[u8], firsts: &mut [usize])
+        ensures { firsts.new ≡ firsts_of self.now n names.now firsts.old }
+    {
+        links::first_children(self.table, self.text, self.links, n, names, firsts);
+    }
 }

@@ -3,10 +3,11 @@ use mathlib.Core.Path.{◌≡◌, sym, ap, ◌∙◌}
 use mathlib.Core.Bool.{true, false}
 use mathlib.Core.List.{List, [], ◌∷◌}
 use mathlib.Core.Option.{Option, none, some}
-use Prim.Native.Nat.{ℕ, ◌+◌, ◌≤◌, ◌<◌, ◌^◌}
+use Prim.Native.Nat.{ℕ, ◌+◌, ◌≤◌, ◌<◌, ◌^◌, max}
 use native.Mathlib.Numerals.{add-one}
-use borrow.Author.Tests.{ne_eqb}
-use lib.Dec.{eqb}
+use borrow.Author.Tests.{eq-eqb, ne_eqb}
+use Rattle.std.proofs.Common.{arith}
+use Rattle.std.proofs.lemmas.Bool.Decides.{nat_tests}
 use lib.Signed.{mag, lt_z}
 use lib.IntN.{ℤ, pos, nat_abs}
 use lib.ListN.{length, get_or, drop, drop_of_length-le}
@@ -16,7 +17,7 @@ use mir.Val.{SFits}
 use mir.Facts.{to_z-of_z}
 use Rattle.text.specs.Utf8.{bytes, encode}
 use Rattle.text.specs.Span.{clipped}
-use Rattle.report.specs.Columns.{Column, plain}
+use Rattle.report.specs.Columns.{Column}
 use Rattle.report.specs.Placed.{Placed}
 use Rattle.report.proofs.Cells.{carried}
 use Rattle.report.proofs.Placing.{placed_then}
@@ -24,14 +25,18 @@ use Rattle.decimals.specs.Decimal.{decimal, signed, natural}
 use Rattle.decimals.proofs.Putting.{placed_as}
 use Rattle.decimals.proofs.Signs.{held, below, above}
 use Rattle.fields.specs.Line.{printed, printable, field, percentage}
-use Rattle.fields.specs.Columns.{column_of, cell, text_shown, amount_shown, percent_shown, date_shown, shown}
+use Rattle.fields.specs.Columns.{cell, text_shown, amount_shown, percent_shown, date_shown, shown}
 use Rattle.fields.proofs.Parts.{Partly, partly_then, partly_all}
 
 -- the loop that prints a text, at i
 module _ (s : List ℕ) (i : ℕ) where
-  pub printable_turn : {l all m n : List ℕ} {at a c b : ℕ} → i < length s → Partly l at all m a (printable (drop i s)) → b ≡ printed (get_or s i 0) → Placed m a (b ∷ []) n c → Partly l at all n c (printable (drop (i + 1) s))
+  printed_max : (b : ℕ) → max b 0x20 ≡ printed b
+  unfolding printed
+  printed_max b = grind (arith, nat_tests)
+
+  pub printable_turn : {l all m n : List ℕ} {at a c b : ℕ} → i < length s → Partly l at all m a (printable (drop i s)) → b ≡ max (get_or s i 0) 0x20 → Placed m a (b ∷ []) n c → Partly l at all n c (printable (drop (i + 1) s))
   unfolding printable
-  printable_turn h p e q = rw add-one (partly_then (rw (drop-cons s i 0, ← e) at p) q)
+  printable_turn h p e q = rw add-one (partly_then (rw (drop-cons s i 0, ← printed_max (get_or s i 0), ← e) at p) q)
 
   pub printable_end : {l all m : List ℕ} {at a : ℕ} → length s ≤ i → Partly l at all m a (printable (drop i s)) → Placed l at all m a
   unfolding printable
@@ -60,17 +65,17 @@ module _ {z : ℤ} (f : SFits w64 z) where
 
 module _ {a b : ℤ} (f : SFits w64 a) (g : SFits w64 b) where
   module _ {k : ℕ} (e : k ≡ natural (held a)) where
-    pub amount_absent : {l m : List ℕ} {at r : ℕ} → eqb k 0 ≡ true → Placed l at (0x2D ∷ []) m r → Placed l at (field (amount_shown a b)) m r
+    pub amount_absent : {l m : List ℕ} {at r : ℕ} → k ≡ 0 → Placed l at (0x2D ∷ []) m r → Placed l at (field (amount_shown a b)) m r
     unfolding amount_shown
     amount_absent h p =
         let n : natural a ≡ k = sym (e ∙ ap natural (to_z-of_z f)) in
-        absent (rw (n, h)) p
+        absent (rw (n, eq-eqb k 0 h)) p
 
-    pub amount_there : {l m : List ℕ} {at r : ℕ} → eqb k 0 ≡ false → Placed l at (signed (held b)) m r → Placed l at (field (amount_shown a b)) m r
+    pub amount_there : {l m : List ℕ} {at r : ℕ} → (k ≡ 0 → ⊥) → Placed l at (signed (held b)) m r → Placed l at (field (amount_shown a b)) m r
     unfolding amount_shown
     amount_there h p =
         let n : natural a ≡ k = sym (e ∙ ap natural (to_z-of_z f)) in
-        there (rw (n, h, to_z-of_z g)) p
+        there (rw (n, ne_eqb k 0 h, to_z-of_z g)) p
 
   pub percent_absent : {l m : List ℕ} {at r : ℕ} → lt_z (held b) (pos 0) ≡ true → Placed l at (0x2D ∷ []) m r → Placed l at (field (percent_shown a b)) m r
   unfolding percent_shown
@@ -105,7 +110,7 @@ module _ {a b : ℤ} (f : SFits w64 a) (g : SFits w64 b) where
         let d : n ≡ (above g h).0 = v ∙ ap natural (to_z-of_z g ∙ (above g h).1) in
         there (at_start x ∙ ap (text_shown x (pos (above f e).0)) (above g h).1 ∙ rw (w, c, d)) p
 
--- a column that is known by its letter, and its first two numbers
+-- what a column shows, by its first two numbers
 pub column_shown :
     (x : List ℕ) (v : List ℤ) (s : ℤ → ℤ → Option (List ℕ)) {d k : Column} {a b : ℤ} {l m : List ℕ} {at r : ℕ} → d ≡ k → shown x k v ≡ s (cell v 0) (cell v 1) → mag a < 2 ^ 63 → a ≡ cell v 0 →
     mag b < 2 ^ 63 → b ≡ cell v 1 → Placed l at (field (s (held a) (held b))) m r → Placed l at (field (shown x d v)) m r
@@ -116,8 +121,3 @@ pub tab_shown :
     (x : List ℕ) (d : Column) (row : List ℤ) (k : ℕ) {v : List ℤ} {l m n : List ℕ} {at i r : ℕ} → Placed l at (0x9 ∷ []) m i → v ≡ drop k row → Placed m i (field (shown x d v)) n r →
     Placed l at (0x9 ∷ field (shown x d (drop k row))) n r
 tab_shown x d row k p e q = rw (← e) (placed_then p q)
-
--- any other letter
-pub letter_other : (c : ℕ) → (c ≡ 0x74 → ⊥) → (c ≡ 0x61 → ⊥) → (c ≡ 0x70 → ⊥) → (c ≡ 0x64 → ⊥) → column_of c ≡ plain
-unfolding column_of
-letter_other c t a p d = rw (ne_eqb c 0x74 t, ne_eqb c 0x61 a, ne_eqb c 0x70 p, ne_eqb c 0x64 d)

@@ -1,17 +1,19 @@
 -- What the numbers of a row show, column by column (document 01, "Rows" and "The printed reading").
-use Rattle.std.specs.Prelude.{cond, List, [], ◌∷◌, map, ℕ, eqb, ℤ, pos, negsuc, get_or, drop}
+use Rattle.std.specs.Prelude.{cond, List, [], ◌∷◌, ℕ, eqb, ℤ, pos, negsuc, get_or, drop}
 use Rattle.std.proofs.Math.Option.{Option, none, some}
 use Rattle.text.specs.Span.{clipped}
 use Rattle.report.specs.Columns.{Column, text, plain, amount, percent, date, width}
 use Rattle.decimals.specs.Decimal.{decimal, signed, natural}
 use Rattle.fields.specs.Line.{printable, field, percentage}
+use Rattle.fields.specs.declared.column.Column as code
 
--- a column by its letter, as the code writes it: t text, a amount, p percentage, d date, any other a plain number
-unfoldable pub column_of : ℕ → Column
-column_of c = cond (eqb c 0x74) text (cond (eqb c 0x61) amount (cond (eqb c 0x70) percent (cond (eqb c 0x64) date plain)))
-
-unfoldable pub columns_of : List ℕ → List Column
-columns_of cs = map column_of cs
+-- a column, as the code names it
+abbrev pub column_of : code.Column → Column
+column_of code.Column.Text = text
+column_of code.Column.Plain = plain
+column_of code.Column.Amount = amount
+column_of code.Column.Percent = percent
+column_of code.Column.Date = date
 
 -- a number of a row, 0 past its end
 abbrev pub cell : List ℤ → ℕ → ℤ

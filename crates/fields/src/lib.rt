@@ -9,7 +9,9 @@
 mod column;
 mod field;
 mod row;
+mod shown;
 
-pub use column::put_printable;
+pub use column::Column;
 pub use field::{put_field, put_fields};
 pub use row::{number_at, numbers_from};
+pub use shown::put_printable;

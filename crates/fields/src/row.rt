@@ -6,18 +6,12 @@ ghost use Rattle.fields.specs.Columns.{cell};
 pub fn number_at(row: &[i64], i: usize) -> i64
     ensures { result ≡ cell row.now i }
 {
-    if row.len() <= i {
-        return 0;
-    }
-    row[i]
+    row.get(i).copied().unwrap_or(0)
 }
 
 // A row's numbers from a place on, none past its end.
 pub fn numbers_from(row: &[i64], k: usize) -> &[i64]
     ensures { result.now ≡ drop k row.now }
 {
-    if row.len() <= k {
-        return &row[0..0];
-    }
-    &row[k..]
+    row.get(k..).unwrap_or(&[])
 }

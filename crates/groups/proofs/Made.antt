@@ -1,9 +1,17 @@
 -- What was made of values that are the same.
-use mathlib.Core.Path.{◌≡◌}
+use mathlib.Core.Path.{◌≡◌, refl}
+use mathlib.Core.Bool.{cond}
+use mathlib.Core.List.{List, []}
 use mathlib.Core.Option.{Option}
 use Prim.Native.Nat.{ℕ}
 use lib.IntN.{ℤ}
+use Rattle.std.specs.Option.{is_some}
+use Rattle.std.specs.Prelude.{None, Some}
+use Rattle.std.specs.declared.option.Option as code
+use Rattle.text.specs.Options.{option_of}
+use Rattle.codes.specs.VatPoint.{vat_point_answer}
 use Rattle.report.specs.Rows.{Place, Vat}
+use Rattle.settlement.specs.Document.{maybe}
 use Rattle.settlement.specs.Shapes.{VatState}
 
 -- a pair
@@ -22,3 +30,13 @@ pub vat_made :
     (s, record { taxable = a; tax = b; category = p; rate = q; reason = x; code = y })
     (s', record { taxable = a'; tax = b'; category = p'; rate = q'; reason = x'; code = y' })
 vat_made e f g h i j k = rw (e, f, g, h, i, j, k)
+
+-- the code that was read, if it is known
+pub code_read : (o : code.Option ℕ) → (vat_point_answer o).value ≡ option_of o
+code_read None = refl
+code_read (Some k) = refl
+
+-- and what is said of it where it is not
+pub unknown_said : {A : Type 0} (es : List A) (o : code.Option ℕ) → maybe es (λ k. []) (option_of o) ≡ cond (is_some o) [] es
+unknown_said es None = refl
+unknown_said es (Some k) = refl

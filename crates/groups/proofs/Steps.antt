@@ -17,6 +17,7 @@ use Rattle.settlement.specs.Shapes.{VatState}
 use Rattle.settlement.specs.Values.{Lent, Site, grouped, kid_text, required_code, date}
 use Rattle.values.specs.Sites.{percent_in, code_in, not_vat_in}
 use Rattle.values.specs.Told.{Said, Told}
+use Rattle.values.specs.declared.saying.Entries.{Entries}
 use Rattle.values.proofs.Telling.{said_then}
 use Rattle.groups.proofs.Made.{pair_made, state_made, vat_made}
 use Rattle.groups.specs.declared.shapes.Category.{Category}
@@ -25,12 +26,12 @@ use Rattle.groups.specs.Groups.{said, preceding_says}
 use Rattle.groups.specs.Categories.{text_found, category_found, category_says}
 use Rattle.groups.specs.Taxes.{vat_category, point_date_found, point_code_in, point_found, point_says, basis_amount, calculated_amount, trade_tax_says}
 
-module _ {l l₁ l₂ : List ℤ} {at a b : ℕ} where
+module _ {e₀ e₁ e₂ : Entries} where
   -- a category: type code, category, rate
   pub category_told :
-      {l₃ : List ℤ} {c : ℕ} {u v w : Site} {i j q : Option Place} {k : Place} {r : Option (ℤ × ℕ)} (mode rules : ℕ) (D : Doc ℕ Place) (x : List ℕ) (of : Category) (g : ℕ) (kids : CategoryKids) → u ≡ grouped of.code of.category g →
+      {e₃ : Entries} {u v w : Site} {i j q : Option Place} {k : Place} {r : Option (ℤ × ℕ)} (mode rules : ℕ) (D : Doc ℕ Place) (x : List ℕ) (of : Category) (g : ℕ) (kids : CategoryKids) → u ≡ grouped of.code of.category g →
       v ≡ grouped of.whole of.category g → w ≡ grouped of.share of.rate g → i ≡ text_found D 0 (found kids.kind) → j ≡ text_found D 0 (found kids.code) → q ≡ text_found D mode (found kids.rate) →
-      Said (not_vat_in x u i) l at l₁ a → Told (code_in rules of.rule v j) l₁ a k l₂ b → Told (percent_in x w q) l₂ b r l₃ c → Told (category_found mode rules D x of g kids) l at (k, r) l₃ c
+      Said (not_vat_in x u i) e₀ e₁ → Told (code_in rules of.rule v j) e₁ k e₂ → Told (percent_in x w q) e₂ r e₃ → Told (category_found mode rules D x of g kids) e₀ (k, r) e₃
   unfolding category_found
   category_told mode rules D x of g kids e f h i j q y z p =
       let k = rw (f, j) at z in
@@ -39,15 +40,15 @@ module _ {l l₁ l₂ : List ℤ} {at a b : ℕ} where
 
   -- a period: start and end
   pub period_told :
-      {d e : Option ℕ} (mode : ℕ) (D : Doc ℕ Place) (n : ℕ) → Told (date mode D false Path.PeriodStartDateTimeString Path.PeriodStartDateString n (bytes "StartDateTime")) l at d l₁ a →
-      Told (date mode D false Path.PeriodEndDateTimeString Path.PeriodEndDateString n (bytes "EndDateTime")) l₁ a e l₂ b → Told (said (reading.period_of mode D n)) l at (some (record { start = d; end = e })) l₂ b
+      {d e : Option ℕ} (mode : ℕ) (D : Doc ℕ Place) (n : ℕ) → Told (date mode D false Path.PeriodStartDateTimeString Path.PeriodStartDateString n (bytes "StartDateTime")) e₀ d e₁ →
+      Told (date mode D false Path.PeriodEndDateTimeString Path.PeriodEndDateString n (bytes "EndDateTime")) e₁ e e₂ → Told (said (reading.period_of mode D n)) e₀ (some (record { start = d; end = e })) e₂
   unfolding reading.period_of
   period_told mode D n p q = record { same = rw (p.same, q.same); said = said_then p.said q.said }
 
   -- a preceding invoice: reference and date
   pub preceding_told :
-      {u : Site} {k : Place} {d : Option ℕ} (mode rules : ℕ) (D : Doc ℕ Place) (g n : ℕ) → u ≡ grouped Path.SettlementInvoiceReferencedDocument Term.Bt25 g → Told (required_code rules D Rule.Br55 u n (bytes "IssuerAssignedID")) l at k l₁ a →
-      Told (date mode D false Path.ReferencedDocumentIssueDateTimeString Path.ReferencedDocumentIssueDateString n (bytes "FormattedIssueDateTime")) l₁ a d l₂ b → Told (preceding_says mode rules D g n) l at (record { reference = k; date = d }) l₂ b
+      {u : Site} {k : Place} {d : Option ℕ} (mode rules : ℕ) (D : Doc ℕ Place) (g n : ℕ) → u ≡ grouped Path.SettlementInvoiceReferencedDocument Term.Bt25 g → Told (required_code rules D Rule.Br55 u n (bytes "IssuerAssignedID")) e₀ k e₁ →
+      Told (date mode D false Path.ReferencedDocumentIssueDateTimeString Path.ReferencedDocumentIssueDateString n (bytes "FormattedIssueDateTime")) e₁ d e₂ → Told (preceding_says mode rules D g n) e₀ (record { reference = k; date = d }) e₂
   unfolding preceding_says
   preceding_told mode rules D g n e p q =
       let r = rw e at p in
@@ -55,8 +56,8 @@ module _ {l l₁ l₂ : List ℤ} {at a b : ℕ} where
 
   -- point date and code
   pub point_told :
-      {d : Option ℕ} {t : VatState Place} {o : Option Place} (mode : ℕ) (D : Doc ℕ Place) (x : List ℕ) (s : VatState Place) (date code : Option ℕ) → o ≡ text_found D 0 code → Told (point_date_found mode D s date) l at d l₁ a →
-      Told (point_code_in x s o) l₁ a t l₂ b → Told (point_found mode D x s date code) l at (record { count = s.count; point = d; code = t.code; first = t.first }) l₂ b
+      {d : Option ℕ} {t : VatState Place} {o : Option Place} (mode : ℕ) (D : Doc ℕ Place) (x : List ℕ) (s : VatState Place) (date code : Option ℕ) → o ≡ text_found D 0 code → Told (point_date_found mode D s date) e₀ d e₁ →
+      Told (point_code_in x s o) e₁ t e₂ → Told (point_found mode D x s date code) e₀ (record { count = s.count; point = d; code = t.code; first = t.first }) e₂
   unfolding point_found
   point_told mode D x s date code e p w =
       let q = rw e at w in
@@ -64,9 +65,9 @@ module _ {l l₁ l₂ : List ℤ} {at a b : ℕ} where
 
   -- a VAT breakdown: point date and code, taxable amount, tax amount, category and rate, exemption reason and its code
   pub vat_breakdown_told :
-      {l₃ l₄ : List ℤ} {c d : ℕ} {p : VatState Place} {z t : ℤ} {of : Category} {k : Place} {q : Option (ℤ × ℕ)} {x y : Option Place} (L : Lent) (D : Doc ℕ Place) (s : VatState Place) (n : ℕ) → Told (point_says L.mode D s n) l at p l₁ a →
-      Told (basis_amount L D s.count n) l₁ a z l₂ b → Told (calculated_amount L D s.count n) l₂ b t l₃ c → of ≡ vat_category → Told (category_says L.mode L.rules D of s.count n) l₃ c (k, q) l₄ d →
-      x ≡ kid_text D 0 n (bytes "ExemptionReason") → y ≡ kid_text D 0 n (bytes "ExemptionReasonCode") → Told (trade_tax_says L D s n) l at (p, record { taxable = z; tax = t; category = k; rate = q; reason = x; code = y }) l₄ d
+      {e₃ e₄ : Entries} {p : VatState Place} {z t : ℤ} {of : Category} {k : Place} {q : Option (ℤ × ℕ)} {x y : Option Place} (L : Lent) (D : Doc ℕ Place) (s : VatState Place) (n : ℕ) → Told (point_says L.mode D s n) e₀ p e₁ →
+      Told (basis_amount L D s.count n) e₁ z e₂ → Told (calculated_amount L D s.count n) e₂ t e₃ → of ≡ vat_category → Told (category_says L.mode L.rules D of s.count n) e₃ (k, q) e₄ →
+      x ≡ kid_text D 0 n (bytes "ExemptionReason") → y ≡ kid_text D 0 n (bytes "ExemptionReasonCode") → Told (trade_tax_says L D s n) e₀ (p, record { taxable = z; tax = t; category = k; rate = q; reason = x; code = y }) e₄
   unfolding trade_tax_says
   vat_breakdown_told L D s n p v t o k e f =
       let r = rw o at k in

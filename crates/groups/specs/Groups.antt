@@ -1,4 +1,5 @@
 -- What the code's groups mean, and the parts of their definitions that have functions of their own.
+use Rattle.text.specs.Options.{option_of}
 use Rattle.std.specs.Prelude.{false, ◌++◌, ℕ}
 use Rattle.std.proofs.Math.Option.{Option, none, some}
 use Rattle.text.specs.Utf8.{bytes}
@@ -6,17 +7,17 @@ use Rattle.codes.specs.declared.rules.Rule.TheVariants as Rule
 use Rattle.names.specs.declared.path.Path.TheVariants as Path
 use Rattle.names.specs.declared.term.Term.TheVariants as Term
 use Rattle.report.specs.Rows.{Place, Preceding}
-use Rattle.report.specs.Values.{place_of, text_of, day_of}
+use Rattle.report.specs.Values.{place_of, text_of}
 use Rattle.settlement.specs.Document.{Doc, maybe, or_else}
 use Rattle.settlement.specs.Shapes.{Identifier, Payee, Period, PaymentTerms, Act}
 use Rattle.settlement.specs.Settlement as reading
 use Rattle.settlement.specs.Values.{Says, grouped, kid, required_code, date}
 use Rattle.groups.specs.declared.shapes.Identifier as CodeIdentifier
-use Rattle.groups.specs.declared.shapes.MaybeIdentifier.{MaybeIdentifier}
-use Rattle.groups.specs.declared.shapes.MaybeIdentifier.TheVariants.{Absent, Of}
 use Rattle.groups.specs.declared.shapes.Payee as CodePayee
 use Rattle.groups.specs.declared.shapes.Period as CodePeriod
 use Rattle.groups.specs.declared.shapes.PaymentTerms as CodePaymentTerms
+use Rattle.std.specs.declared.option.Option as code
+use Rattle.std.specs.Prelude.{None, Some}
 
 -- the next state of a lane, with what a child says
 abbrev pub said : {S : Type 0} → Act Place S → Says Place S
@@ -27,9 +28,9 @@ abbrev pub identifier_of : CodeIdentifier.Identifier → Identifier Place
 identifier_of i = record { content = place_of i.content; scheme = text_of i.scheme }
 
 -- that may be absent
-abbrev pub maybe_identifier_of : MaybeIdentifier → Option (Identifier Place)
-maybe_identifier_of Absent = none
-maybe_identifier_of (Of i) = some (identifier_of i)
+abbrev pub maybe_identifier_of : code.Option CodeIdentifier.Identifier → Option (Identifier Place)
+maybe_identifier_of None = none
+maybe_identifier_of (Some i) = some (identifier_of i)
 
 -- BG-10
 abbrev pub payee_of : CodePayee.Payee → Payee Place
@@ -37,11 +38,11 @@ payee_of p = record { name = text_of p.name; identifier = maybe_identifier_of p.
 
 -- BG-14
 abbrev pub period_of : CodePeriod.Period → Period
-period_of p = record { start = day_of p.start; end = day_of p.end }
+period_of p = record { start = option_of p.start; end = option_of p.end }
 
 -- BT-20, BT-9, BT-89
 abbrev pub payment_terms_of : CodePaymentTerms.PaymentTerms → PaymentTerms Place
-payment_terms_of t = record { note = text_of t.note; due = day_of t.due; mandate = text_of t.mandate }
+payment_terms_of t = record { note = text_of t.note; due = option_of t.due; mandate = text_of t.mandate }
 
 module _ (D : Doc ℕ Place) where
   -- scheme: schemeID if there, else listID, untrimmed

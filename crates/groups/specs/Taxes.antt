@@ -1,6 +1,7 @@
 -- VAT breakdowns in the code's terms.
+use Rattle.text.specs.Options.{option_of}
 use Rattle.std.specs.Prelude.{true, cond, List, [], ◌∷◌, ◌++◌, ℕ, ℤ}
-use Rattle.std.proofs.Math.Option.{Option, none, some}
+use Rattle.std.proofs.Math.Option.{Option, some}
 use Rattle.text.specs.Order.{equal}
 use Rattle.text.specs.Utf8.{bytes}
 use Rattle.codes.specs.VatPoint.{vat_point_date_code_of}
@@ -9,27 +10,20 @@ use Rattle.names.specs.declared.message.Message.TheVariants as Message
 use Rattle.names.specs.declared.path.Path.TheVariants as Path
 use Rattle.names.specs.declared.term.Term.TheVariants as Term
 use Rattle.report.specs.Rows.{Place, Vat}
-use Rattle.report.specs.Values.{text_of, day_of}
+use Rattle.report.specs.Values.{text_of}
 use Rattle.settlement.specs.Document.{Doc, maybe}
 use Rattle.settlement.specs.Shapes.{VatState}
 use Rattle.settlement.specs.TableDoc.{shows}
 use Rattle.settlement.specs.Tax.{point_date, point_code}
 use Rattle.settlement.specs.Values.{Lent, Says, site, grouped, entry, kid_text, required_amount}
 use Rattle.groups.specs.declared.shapes.Category.{Category}
-use Rattle.groups.specs.declared.shapes.PointCode.{PointCode}
-use Rattle.groups.specs.declared.shapes.PointCode.TheVariants.{Absent, Of}
 use Rattle.groups.specs.declared.shapes.VatState as Code
 use Rattle.values.specs.Sites.{date_of}
 use Rattle.groups.specs.Categories.{text_found, category_says}
 
--- BT-8
-abbrev pub point_code_of : PointCode → Option ℕ
-point_code_of Absent = none
-point_code_of (Of k) = some k
-
 -- VAT so far
 abbrev pub vat_state_of : Code.VatState → VatState Place
-vat_state_of s = record { count = s.breakdowns; point = day_of s.point; code = point_code_of s.code; first = text_of s.first }
+vat_state_of s = record { count = s.breakdowns; point = option_of s.point; code = option_of s.code; first = text_of s.first }
 
 -- the date of a child, until one is read
 unfoldable pub point_date_found : ℕ → Doc ℕ Place → VatState Place → Option ℕ → Says Place (Option ℕ)

@@ -2,73 +2,79 @@
 ghost use Rattle.std.specs.Prelude.{◌≡◌};
 ghost use Rattle.report.specs.Values.{text_of};
 ghost use Rattle.settlement.specs.Settlement as reading;
-ghost use Rattle.element.specs.LinkDoc.{link_doc};
+ghost use Rattle.element.specs.LinkDoc.{doc_of};
 ghost use Rattle.groups.specs.Groups.{identifier_of, maybe_identifier_of, payee_of, scheme_of, kid_identifier, payee_identifier, legal_identifier};
 
-use crate::shapes::{Identifier, MaybeIdentifier, Payee};
-use report::Text;
+use crate::shapes::{Identifier, Payee};
+use element::Document;
+use report::Place;
 
 // The scheme of element e: schemeID if there, else listID.
-fn scheme(table: &[u32], text: &[u8], links: &[u16], e: usize) -> Text
-    ensures { text_of result ≡ scheme_of (link_doc table.now text.now links.now) e }
+#[tactic(auto, unfolding(crate::specs::Groups::scheme_of, text::specs::Utf8::bytes, text::specs::Utf8::encode))]
+fn scheme(doc: &Document, e: usize) -> Option<Place>
+    ensures { text_of result ≡ scheme_of (doc_of doc.now) e }
 {
-    let own = element::attribute_text(table, text, links, e, b"schemeID");
-    match own {
-        Text::Absent => element::attribute_text(table, text, links, e, b"listID"),
-        Text::At(p) => Text::At(p),
+    match doc.attribute_text(e, b"schemeID") {
+        None => doc.attribute_text(e, b"listID"),
+        Some(own) => Some(own),
     }
 }
 
 // The identifier that element e is.
-fn identifier(table: &[u32], text: &[u8], links: &[u16], e: usize) -> Identifier
-    ensures { identifier_of result ≡ reading.identifier_of (link_doc table.now text.now links.now) e }
+#[tactic(auto, unfolding(settlement::specs::Settlement::identifier_of, crate::specs::Groups::scheme_of))]
+fn identifier(doc: &Document, e: usize) -> Identifier
+    ensures { identifier_of result ≡ reading.identifier_of (doc_of doc.now) e }
 {
     Identifier {
-        content: element::own_text(table, text, links, 0, e),
-        scheme: scheme(table, text, links, e),
+        content: doc.own_text(0, e),
+        scheme: scheme(doc, e),
     }
 }
 
 // The identifier in the first child ID of element n.
-fn kid_identifier(table: &[u32], text: &[u8], links: &[u16], n: usize) -> MaybeIdentifier
-    ensures { maybe_identifier_of result ≡ kid_identifier (link_doc table.now text.now links.now) n }
+#[tactic(auto, using(element::proofs::Documents::found_is), unfolding(crate::specs::Groups::kid_identifier, text::specs::Utf8::bytes, text::specs::Utf8::encode))]
+fn kid_identifier(doc: &Document, n: usize) -> Option<Identifier>
+    ensures { maybe_identifier_of result ≡ kid_identifier (doc_of doc.now) n }
 {
-    let e = element::kid(table, text, links, n, b"ID");
+    let e = doc.kid(n, b"ID");
     if e == 0 {
-        return MaybeIdentifier::Absent;
+        return None;
     }
-    MaybeIdentifier::Of(identifier(table, text, links, e))
+    Some(identifier(doc, e))
 }
 
 // The payee's identifier: GlobalID if there, else ID.
-fn payee_identifier(table: &[u32], text: &[u8], links: &[u16], n: usize) -> MaybeIdentifier
-    ensures { maybe_identifier_of result ≡ payee_identifier (link_doc table.now text.now links.now) n }
+#[tactic(auto, using(element::proofs::Documents::found_is), unfolding(crate::specs::Groups::payee_identifier, crate::specs::Groups::kid_identifier, text::specs::Utf8::bytes, text::specs::Utf8::encode))]
+fn payee_identifier(doc: &Document, n: usize) -> Option<Identifier>
+    ensures { maybe_identifier_of result ≡ payee_identifier (doc_of doc.now) n }
 {
-    let e = element::kid(table, text, links, n, b"GlobalID");
+    let e = doc.kid(n, b"GlobalID");
     if e == 0 {
-        return kid_identifier(table, text, links, n);
+        return kid_identifier(doc, n);
     }
-    MaybeIdentifier::Of(identifier(table, text, links, e))
+    Some(identifier(doc, e))
 }
 
 // The payee's legal registration: the ID of SpecifiedLegalOrganization.
-fn legal_identifier(table: &[u32], text: &[u8], links: &[u16], n: usize) -> MaybeIdentifier
-    ensures { maybe_identifier_of result ≡ legal_identifier (link_doc table.now text.now links.now) n }
+#[tactic(auto, using(element::proofs::Documents::found_is), unfolding(crate::specs::Groups::legal_identifier, text::specs::Utf8::bytes, text::specs::Utf8::encode))]
+fn legal_identifier(doc: &Document, n: usize) -> Option<Identifier>
+    ensures { maybe_identifier_of result ≡ legal_identifier (doc_of doc.now) n }
 {
-    let o = element::kid(table, text, links, n, b"SpecifiedLegalOrganization");
+    let o = doc.kid(n, b"SpecifiedLegalOrganization");
     if o == 0 {
-        return MaybeIdentifier::Absent;
+        return None;
     }
-    kid_identifier(table, text, links, o)
+    kid_identifier(doc, o)
 }
 
 // The payee that element n is.
-pub fn payee(table: &[u32], text: &[u8], links: &[u16], n: usize) -> Payee
-    ensures { payee_of result ≡ reading.payee_of (link_doc table.now text.now links.now) n }
+#[tactic(auto, unfolding(settlement::specs::Settlement::payee_of, crate::specs::Groups::payee_identifier, crate::specs::Groups::legal_identifier, crate::specs::Groups::kid_identifier, text::specs::Utf8::bytes, text::specs::Utf8::encode))]
+pub fn payee(doc: &Document, n: usize) -> Payee
+    ensures { payee_of result ≡ reading.payee_of (doc_of doc.now) n }
 {
     Payee {
-        name: element::kid_text(table, text, links, 0, n, b"Name"),
-        identifier: payee_identifier(table, text, links, n),
-        legal: legal_identifier(table, text, links, n),
+        name: doc.kid_text(0, n, b"Name"),
+        identifier: payee_identifier(doc, n),
+        legal: legal_identifier(doc, n),
     }
 }

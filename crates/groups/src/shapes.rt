@@ -1,59 +1,46 @@
 // What the groups hold.
+use amount::Percentage;
 use codes::Rule;
 use names::{Path, Term};
-use report::{Day, Place, Text};
+use report::Place;
 
 // BT-73 and BT-74.
 #[derive(Clone, Copy)]
 pub struct Period {
-    pub start: Day,
-    pub end: Day,
+    pub start: Option<u32>,
+    pub end: Option<u32>,
 }
 
 // BT-20, BT-9 and BT-89.
 #[derive(Clone, Copy)]
 pub struct PaymentTerms {
-    pub note: Text,
-    pub due: Day,
-    pub mandate: Text,
+    pub note: Option<Place>,
+    pub due: Option<u32>,
+    pub mandate: Option<Place>,
 }
 
 // An identifier with its scheme.
 #[derive(Clone, Copy)]
 pub struct Identifier {
     pub content: Place,
-    pub scheme: Text,
-}
-
-// An identifier that may be absent.
-#[derive(Clone, Copy)]
-pub enum MaybeIdentifier {
-    Absent,
-    Of(Identifier),
+    pub scheme: Option<Place>,
 }
 
 // BT-59, BT-60 and BT-61.
 #[derive(Clone, Copy)]
 pub struct Payee {
-    pub name: Text,
-    pub identifier: MaybeIdentifier,
-    pub legal: MaybeIdentifier,
-}
-
-// BT-8, a code of UNTDID 2005, that may be absent.
-#[derive(Clone, Copy)]
-pub enum PointCode {
-    Absent,
-    Of(u32),
+    pub name: Option<Place>,
+    pub identifier: Option<Identifier>,
+    pub legal: Option<Identifier>,
 }
 
 // How many VAT breakdowns there are, BT-7, BT-8, and the first code as it was written.
 #[derive(Clone, Copy)]
 pub struct VatState {
     pub breakdowns: u32,
-    pub point: Day,
-    pub code: PointCode,
-    pub first: Text,
+    pub point: Option<u32>,
+    pub code: Option<u32>,
+    pub first: Option<Place>,
 }
 
 // Where a VAT category and its rate are said: the paths of its type code, its group and its rate, its
@@ -74,4 +61,11 @@ pub struct CategoryKids {
     pub kind: usize,
     pub code: usize,
     pub rate: usize,
+}
+
+// A VAT category and its rate.
+#[derive(Clone, Copy)]
+pub struct CategoryRate {
+    pub category: Place,
+    pub rate: Option<Percentage>,
 }

@@ -1,168 +1,120 @@
 // BG-23 VAT breakdown, with the VAT point date and code of the invoice.
+ghost use Rattle.text.specs.Options.{option_of};
 ghost use Rattle.std.specs.Prelude.{◌≡◌};
 ghost use Rattle.table.specs.Table.{found};
 ghost use Rattle.codes.specs.declared.rules.Rule.TheVariants as Rule;
 ghost use Rattle.names.specs.declared.path.Path.TheVariants as Path;
 ghost use Rattle.names.specs.declared.term.Term.TheVariants as Term;
-ghost use Rattle.report.specs.Values.{place_of, text_of, day_of, vat_of};
+ghost use Rattle.report.specs.Values.{place_of, text_of, vat_of};
 ghost use Rattle.settlement.specs.Values.{grouped};
-ghost use Rattle.element.specs.LinkDoc.{link_doc};
+ghost use Rattle.element.specs.LinkDoc.{doc_of, lent_text};
 ghost use Rattle.values.specs.Sites.{lent_of};
 ghost use Rattle.values.specs.Told.{Told};
 ghost use Rattle.amounts.specs.Amounts.{Wanted};
 ghost use Rattle.groups.specs.Taxes.{vat_state_of, vat_category, fresh_code_of, again_code_of, point_date_found, point_code_in, point_found, trade_tax_says};
 
 use crate::categories::category_of;
-use crate::shapes::{Category, CategoryKids, PointCode, VatState};
+use crate::shapes::{Category, CategoryKids, VatState};
 use amounts::Required;
-use codes::{Rule, VatPointDateCode};
+use codes::Rule;
+use element::Document;
 use names::{Message, Path, Term};
-use report::{Day, Place, Text, Vat};
-use values::{DatePaths, DateSaid, Lent};
-
-// What a VAT breakdown makes of the point date and code, and where the next entry goes.
-#[derive(Clone, Copy)]
-pub struct VatSaid {
-    pub state: VatState,
-    pub at: usize,
-}
-
-// A VAT breakdown, too.
-#[derive(Clone, Copy)]
-pub struct VatBreakdownSaid {
-    pub state: VatState,
-    pub vat: Vat,
-    pub at: usize,
-}
+use report::{Place, Vat};
+use values::{DatePaths, Entries, Lent};
 
 // BT-7: the point date so far, or that of a child e.
 fn point_date(
-    table: &[u32],
-    text: &[u8],
-    links: &[u16],
+    doc: &Document,
     mode: u32,
-    entries: &mut [i64],
-    at: usize,
+    entries: &mut Entries,
     s: VatState,
     e: usize,
-) -> DateSaid
-    ensures { Told (point_date_found mode (link_doc table.now text.now links.now) (vat_state_of s) (found e)) entries.old at (day_of result.day) entries.new result.at }
+) -> Option<u32>
+    ensures { Told (point_date_found mode (doc_of doc.now) (vat_state_of s) (found e)) entries.old (option_of result) entries.new }
 {
-    let point = s.point;
-    match point {
-        Day::On(d) => DateSaid {
-            day: Day::On(d),
-            at,
-        },
-        Day::Absent => {
+    match s.point {
+        Some(day) => Some(day),
+        None => {
             let paths = DatePaths {
                 point: true,
                 time: Path::TaxPointDateTimeString,
                 day: Path::TaxPointDateString,
             };
-            values::date(table, text, links, mode, entries, at, paths, e)
+            values::date(doc, mode, entries, paths, e)
         }
     }
 }
 
 // BT-8: the first code, kept as it is written; one that is not known is said.
-fn fresh_code(text: &[u8], entries: &mut [i64], at: usize, s: VatState, p: Place) -> VatSaid
-    ensures { Told (fresh_code_of text.now (vat_state_of s) (place_of p)) entries.old at (vat_state_of result.state) entries.new result.at }
+fn fresh_code(doc: &Document, entries: &mut Entries, s: VatState, p: Place) -> VatState
+    ensures { Told (fresh_code_of (lent_text doc.now) (vat_state_of s) (place_of p)) entries.old (vat_state_of result) entries.new }
 {
-    let code = codes::vat_point_date_code_from_cii(element::shown(text, p));
-    match code {
-        VatPointDateCode::Code(k) => VatSaid {
-            state: VatState {
-                code: PointCode::Of(k),
-                first: Text::At(p),
-                ..s
-            },
-            at,
-        },
-        VatPointDateCode::Unknown => {
-            let site = values::site(Path::TradeTaxDueDateTypeCode, Term::Bt8);
-            let message = Message::UnknownVatPointCode;
-            VatSaid {
-                state: VatState {
-                    code: PointCode::Absent,
-                    first: Text::At(p),
-                    ..s
-                },
-                at: values::say(entries, at, message, site, Text::At(p)),
-            }
-        }
+    let code = codes::vat_point_date_code_from_cii(doc.shown(p));
+    if code.is_none() {
+        let site = values::site(Path::TradeTaxDueDateTypeCode, Term::Bt8);
+        entries.say(Message::UnknownVatPointCode, site, Some(p));
+    }
+    VatState {
+        code,
+        first: Some(p),
+        ..s
     }
 }
 
 // A further code, which is said where it is not written as the first.
 fn again_code(
-    text: &[u8],
-    entries: &mut [i64],
-    at: usize,
+    doc: &Document,
+    entries: &mut Entries,
     s: VatState,
     p: Place,
     first: Place,
-) -> VatSaid
-    ensures { Told (again_code_of text.now (vat_state_of s) (place_of p) (place_of first)) entries.old at (vat_state_of result.state) entries.new result.at }
+) -> VatState
+    ensures { Told (again_code_of (lent_text doc.now) (vat_state_of s) (place_of p) (place_of first)) entries.old (vat_state_of result) entries.new }
 {
-    if text::same(element::shown(text, first), element::shown(text, p)) {
-        return VatSaid { state: s, at };
+    if !text::same(doc.shown(first), doc.shown(p)) {
+        let site = values::site(Path::SettlementTradeTaxDueDateTypeCode, Term::Bt8);
+        entries.say(Message::SecondVatPointCode, site, Some(p));
     }
-    let site = values::site(Path::SettlementTradeTaxDueDateTypeCode, Term::Bt8);
-    let message = Message::SecondVatPointCode;
-    VatSaid {
-        state: s,
-        at: values::say(entries, at, message, site, Text::At(p)),
-    }
+    s
 }
 
 // BT-8 after a breakdown: no code in it, the first, or a further one.
-fn point_code(text: &[u8], entries: &mut [i64], at: usize, s: VatState, code: Text) -> VatSaid
-    ensures { Told (point_code_in text.now (vat_state_of s) (text_of code)) entries.old at (vat_state_of result.state) entries.new result.at }
+fn point_code(doc: &Document, entries: &mut Entries, s: VatState, code: Option<Place>) -> VatState
+    ensures { Told (point_code_in (lent_text doc.now) (vat_state_of s) (text_of code)) entries.old (vat_state_of result) entries.new }
 {
-    let first = s.first;
     match code {
-        Text::Absent => VatSaid { state: s, at },
-        Text::At(p) => match first {
-            Text::Absent => fresh_code(text, entries, at, s, p),
-            Text::At(f) => again_code(text, entries, at, s, p, f),
+        None => s,
+        Some(p) => match s.first {
+            None => fresh_code(doc, entries, s, p),
+            Some(first) => again_code(doc, entries, s, p, first),
         },
     }
 }
 
 // BT-7 and BT-8 after a breakdown, by the children of their names.
 fn point(
-    table: &[u32],
-    text: &[u8],
-    links: &[u16],
+    doc: &Document,
     mode: u32,
-    entries: &mut [i64],
-    at: usize,
+    entries: &mut Entries,
     s: VatState,
     date: usize,
     code: usize,
-) -> VatSaid
-    ensures { Told (point_found mode (link_doc table.now text.now links.now) text.now (vat_state_of s) (found date) (found code)) entries.old at (vat_state_of result.state) entries.new result.at }
+) -> VatState
+    ensures { Told (point_found mode (doc_of doc.now) (lent_text doc.now) (vat_state_of s) (found date) (found code)) entries.old (vat_state_of result) entries.new }
 {
-    let date = point_date(table, text, links, mode, entries, at, s, date);
-    let code = element::child_text(table, text, links, 0, code);
-    let said = point_code(text, entries, date.at, s, code);
-    let day = date.day;
-    let after = said.state;
-    let code = after.code;
-    let first = after.first;
-    VatSaid {
-        state: VatState {
-            point: day,
-            code,
-            first,
-            ..s
-        },
-        at: said.at,
+    let point = point_date(doc, mode, entries, s, date);
+    let code = doc.child_text(0, code);
+    let after = point_code(doc, entries, s, code);
+    VatState {
+        point,
+        code: after.code,
+        first: after.first,
+        ..s
     }
 }
 
-// Where BT-116 stands in the VAT breakdown of an index.
+// Where BT-116 stands in the VAT breakdown of an index. It and that of BT-117 stay two tables of constants: one
+// function would take all that differ.
 fn taxable_amount(index: u32) -> Required
     ensures { Wanted result Rule.Br45 Path.SettlementTradeTax (grouped Path.TradeTaxBasisAmount Term.Bt116 index) }
 {
@@ -198,19 +150,16 @@ fn vat_category() -> Category
     }
 }
 
-// The VAT breakdown that element n is, after those counted so far.
+// The VAT breakdown that element n is, after those counted so far, and what it makes of BT-7 and BT-8.
 pub fn vat_breakdown(
-    table: &[u32],
-    text: &[u8],
-    links: &[u16],
+    doc: &Document,
     lent: Lent,
     currency: &[u8],
-    entries: &mut [i64],
-    at: usize,
+    entries: &mut Entries,
     s: VatState,
     n: usize,
-) -> VatBreakdownSaid
-    ensures { Told (trade_tax_says (lent_of lent currency.now) (link_doc table.now text.now links.now) (vat_state_of s) n) entries.old at ((vat_state_of result.state, vat_of result.vat)) entries.new result.at }
+) -> (VatState, Vat)
+    ensures { Told (trade_tax_says (lent_of lent currency.now) (doc_of doc.now) (vat_state_of s) n) entries.old ((vat_state_of result.0, vat_of result.1)) entries.new }
 {
     let mut kids: [usize; 9] = [0; 9];
     let names = b"\x0cTaxPointDate\
@@ -221,48 +170,23 @@ pub fn vat_breakdown(
         \x15RateApplicablePercent\
         \x0fExemptionReason\
         \x13ExemptionReasonCode";
-    links::first_children(table, text, links, n, names, &mut kids);
-    let date = kids[0];
-    let code = kids[1];
-    let basis = kids[2];
-    let calculated = kids[3];
-    let found = CategoryKids {
-        kind: kids[4],
-        code: kids[5],
-        rate: kids[6],
-    };
-    let reason = kids[7];
-    let reason_code = kids[8];
+    doc.first_children(n, names, &mut kids);
+    let [date, due, basis, tax, kind, code, rate, reason, reason_code] = kids;
+    let found = CategoryKids { kind, code, rate };
+    let state = point(doc, lent.mode, entries, s, date, due);
     let index = s.breakdowns;
-    let moment = point(table, text, links, lent.mode, entries, at, s, date, code);
-    let at = moment.at;
-    let q = taxable_amount(index);
-    let taxable = amounts::required_amount(
-        table, text, links, lent, currency, entries, at, q, basis,
-    );
-    let at = taxable.at;
-    let q = tax_amount(index);
-    let tax = amounts::required_amount(
-        table, text, links, lent, currency, entries, at, q, calculated,
-    );
-    let at = tax.at;
-    let of = vat_category();
-    let category = category_of(table, text, links, lent, entries, at, of, index, found);
-    let state = moment.state;
-    let basis = taxable.amount;
-    let due = tax.amount;
-    let kind = category.category;
-    let rate = category.rate;
-    VatBreakdownSaid {
-        state,
-        vat: Vat {
-            taxable: basis,
-            tax: due,
-            category: kind,
-            rate,
-            reason: element::child_text(table, text, links, 0, reason),
-            code: element::child_text(table, text, links, 0, reason_code),
-        },
-        at: category.at,
-    }
+    let wanted = taxable_amount(index);
+    let taxable = amounts::required_amount(doc, lent, currency, entries, wanted, basis);
+    let wanted = tax_amount(index);
+    let tax = amounts::required_amount(doc, lent, currency, entries, wanted, tax);
+    let category = category_of(doc, lent, entries, vat_category(), index, found);
+    let vat = Vat {
+        taxable,
+        tax,
+        category: category.category,
+        rate: category.rate,
+        reason: doc.child_text(0, reason),
+        code: doc.child_text(0, reason_code),
+    };
+    (state, vat)
 }

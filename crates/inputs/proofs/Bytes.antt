@@ -1,38 +1,36 @@
 -- The bytes of an input at a place, and the loop that finds where a field ends.
-use mathlib.Core.Path.{◌≡◌, refl, ap, ◌∙◌}
-use mathlib.Core.Bool.{Bool, true, false, cond}
+use mathlib.Core.Path.{◌≡◌, refl, sym, ap, ◌∙◌}
+use mathlib.Core.Bool.{Bool, true, false, cond, not, ◌&&◌}
 use mathlib.Core.List.{List, [], ◌∷◌}
-use Prim.Native.Nat.{ℕ, suc, ◌+◌, ◌-◌, ◌≤◌, ◌<◌}
+use Prim.Native.Nat.{ℕ, suc, ◌+◌, ◌-◌, ◌≤◌, ◌<◌, max}
 use native.Mathlib.Omega.{arith}
-use native.Mathlib.Numerals.{add-one}
+use native.Mathlib.Decide.{dec_lt}
+use borrow.Author.Tests.{lt-ltb, eqb-true}
 use lib.Dec.{eqb}
-use lib.ListN.{length, get_or, drop, drop_of_length-le, get_or-eq_default}
-use lib.Seq.{drop-cons}
+use lib.ListN.{length, get_or, drop, get_or-eq_default, length-drop}
+use Rattle.std.specs.List.{position_or_len}
+use Rattle.std.specs.Prelude.{Some}
 use Rattle.text.specs.declared.span.Span.{Span}
-use Rattle.text.specs.Span.{cut, clipped}
+use Rattle.text.specs.Span.{cut}
 use Rattle.text.specs.Order.{equal}
-use Rattle.inputs.specs.Line.{or_none}
-use Rattle.inputs.specs.Places.{space_at, word, field_at, closing, name_at}
+use Rattle.inputs.specs.Line.{filled, or_none}
+use Rattle.inputs.specs.Places.{space_at, word, field_at, name_at, named_at}
 use Rattle.inputs.specs.Spelling.{mark}
 
-module _ (s : List ℕ) (p : Span) where
-  pub cut_turned : p.end < p.start → [] ≡ cut p s
-  unfolding cut
-  cut_turned h = let z : p.end - p.start ≡ 0 = omega arith in rw z
+-- a currency or an identifier of two bytes or more
+long_other : (b : List ℕ) → 2 ≤ length b → (filled b ≡ true) × (equal b (0x2D ∷ []) ≡ false)
+unfolding filled equal
+long_other [] h = absurd (omega arith)
+long_other (x ∷ []) h = absurd (omega arith)
+long_other (x ∷ y ∷ b) h = (lt-ltb 0 (length (x ∷ y ∷ b)) (omega arith), go (eqb x 0x2D))
+  where
+    go : (t : Bool) → (t && false) ≡ false
+    go true = refl
+    go false = refl
 
-  pub cut_clipped : {b : List ℕ} → b ≡ clipped s p.start (p.end - p.start) → b ≡ cut p s
-  unfolding cut clipped
-  cut_clipped e = e
-
--- a currency or an identifier
-module _ (s : List ℕ) (p : Span) {b : List ℕ} (e : b ≡ cut p s) {t : Bool} (q : t ≡ equal b (0x2D ∷ [])) where
-  pub name_none : t ≡ true → record { start = p.start; end = p.start } ≡ name_at s p
-  unfolding name_at
-  name_none y = rw (← e, ← q, y)
-
-  pub name_some : t ≡ false → p ≡ name_at s p
-  unfolding name_at
-  name_some n = rw (← e, ← q, n)
+pub name_long : (s : List ℕ) (p : Span) {b : List ℕ} → b ≡ cut p s → 2 ≤ length b → Some p ≡ named_at s p
+unfolding named_at name_at
+name_long s p {b} e h = let o = long_other b h in rw (← e, o.0, o.1)
 
 cut_empty : (s : List ℕ) (i : ℕ) → cut (record { start = i; end = i }) s ≡ []
 unfolding cut
@@ -47,51 +45,39 @@ name_bytes s p = go (equal (cut p s) (0x2D ∷ []))
     go true = cut_empty s p.start
     go false = refl
 
--- the bytes from i on
-module _ (s : List ℕ) (i : ℕ) where
-  pub space_here : i < length s → eqb (get_or s i 0) 0x20 ≡ space_at s i
-  unfolding space_at
-  space_here h = refl
+-- a space stands inside the text
+pub space_inside : (s : List ℕ) (i : ℕ) → space_at s i ≡ true → i < length s
+unfolding space_at
+space_inside s i t =
+    elim (dec_lt i (length s)) [ yes h ↦ h | no h ↦ absurd (let past : length s ≤ i = omega arith in omega (arith, eqb-true (get_or s i 0) 0x20 t, get_or-eq_default s 0 past)) ]
 
-  pub no_space : length s ≤ i → false ≡ space_at s i
-  unfolding space_at
-  no_space h = rw (get_or-eq_default s 0 h)
+-- how long a word is
+pub word_length : (s : List ℕ) → length (word s) ≡ position_or_len mark s
+unfolding word
+word_length [] = refl
+word_length (b ∷ s) = go (mark b) (word_length s)
+  where
+    go : (t : Bool) → length (word s) ≡ position_or_len mark s → length (cond t [] (b ∷ word s)) ≡ cond (not t) (1 + position_or_len mark s) 0
+    go true h = refl
+    go false h = omega arith
 
-  pub closing_past : length s ≤ i → true ≡ closing (drop i s)
-  unfolding closing
-  closing_past h = rw (drop_of_length-le s h)
+word_short : (s : List ℕ) → length (word s) ≤ length s
+unfolding word
+word_short [] = omega arith
+word_short (b ∷ s) = go (mark b) (word_short s)
+  where
+    go : (t : Bool) → length (word s) ≤ length s → length (cond t [] (b ∷ word s)) ≤ suc (length s)
+    go true h = omega arith
+    go false h = omega arith
 
-  pub closing_more : i < length s → (length s - i ≡ 1 → ⊥) → false ≡ closing (drop i s)
-  unfolding closing
-  closing_more h n = rw (drop-cons s i 0 h, drop-cons s (suc i) 0 (omega arith))
+-- the field that begins at i ends in the text
+module _ (s : List ℕ) (i : ℕ) {r : List ℕ} (e : r ≡ drop i s) {n : ℕ} (q : n ≡ position_or_len mark r) where
+  is_length : n ≡ length (word (drop i s))
+  is_length = q ∙ ap (position_or_len mark) e ∙ sym (word_length (drop i s))
 
-  pub closing_last : i < length s → length s - i ≡ 1 → eqb (get_or s i 0) 0x0A ≡ closing (drop i s)
-  unfolding closing
-  closing_last h n =
-      let e : drop (suc i) s ≡ [] = drop_of_length-le s {i = suc i} (omega arith) in
-      rw (drop-cons s i 0 h, e)
+  pub field_inside : i + n ≤ max i (length s)
+  field_inside = omega (arith, is_length, word_short (drop i s), length-drop i s)
 
--- the field that begins at start ends where the one from i on does
-pub record Passing (s : List ℕ) (start i : ℕ) : Type 0 where
-  pub ends : start + length (word (drop start s)) ≡ i + length (word (drop i s))
-
-pub passing_start : (s : List ℕ) (start : ℕ) → Passing s start start
-passing_start s start = record { ends = refl }
-
-module _ (s : List ℕ) (start i : ℕ) (f : Passing s start i) where
-  field_is : length (word (drop i s)) ≡ 0 → record { start = start; end = i } ≡ field_at s start
+  pub field_found : record { start = i; end = i + n } ≡ field_at s i
   unfolding field_at
-  field_is e = let z : i ≡ start + length (word (drop start s)) = omega (arith, f.ends) in ap (λ (x : ℕ). record { start = start; end = x }) z
-
-  pub field_past : length s ≤ i → record { start = start; end = i } ≡ field_at s start
-  unfolding word
-  field_past h = field_is (rw (drop_of_length-le s h))
-
-  module _ (h : i < length s) {b : Bool} (q : b ≡ mark (get_or s i 0)) where
-    pub field_here : b ≡ true → record { start = start; end = i } ≡ field_at s start
-    unfolding word
-    field_here t = field_is (rw (drop-cons s i 0 h, ← q, t))
-
-    pub field_turn : b ≡ false → Passing s start (i + 1)
-    unfolding word
-    field_turn t = record { ends = f.ends ∙ rw (add-one, drop-cons s i 0 h, ← q, t) (omega arith) }
+  field_found = ap (λ (m : ℕ). record { start = i; end = i + m }) is_length

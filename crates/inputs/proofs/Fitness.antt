@@ -11,21 +11,21 @@ use Rattle.text.specs.Digits.{number}
 use Rattle.text.specs.Span.{cut}
 use Rattle.text.proofs.Bools.{both}
 use Rattle.inputs.specs.declared.input_line.Fields.{Fields}
-use Rattle.inputs.specs.declared.input_line.Line.{Line}
-use Rattle.inputs.specs.declared.input_line.Line.TheVariants.{Unfit, Fit}
 use Rattle.inputs.specs.Line.{Content, or_none, line_of}
 use Rattle.inputs.specs.Given.{Given, numbers_of, record_file, input_of}
 use Rattle.inputs.specs.Places.{given_by, Parsed, Decided}
 use Rattle.inputs.specs.Spelling.{Formed}
 use Rattle.inputs.proofs.Spellings.{formed_line}
+use Rattle.std.specs.declared.option.Option as code
+use Rattle.std.specs.Prelude.{None, Some}
 
 module _ (records text input : List ℕ) where
-  pub records_long : 6144 < length records → Decided records text input Unfit
+  pub records_long : 6144 < length records → Decided records text input None
   unfolding given_by record_file input_of
   records_long h = record { says = rw (lt-leb (length records) 6144 h); is = rw (lt-leb (length records) 6144 h) }
 
   module _ (h : length records ≤ 6144) where
-    pub numbers_broken : (length records % 4 ≡ 0 → ⊥) → Decided records text input Unfit
+    pub numbers_broken : (length records % 4 ≡ 0 → ⊥) → Decided records text input None
     unfolding given_by record_file input_of
     numbers_broken n =
         record {
@@ -34,7 +34,7 @@ module _ (records text input : List ℕ) where
         }
 
     module _ (e : length records % 4 ≡ 0) where
-      pub text_long : 65536 < length text → Decided records text input Unfit
+      pub text_long : 65536 < length text → Decided records text input None
       unfolding given_by record_file input_of
       text_long l =
           record {
@@ -42,7 +42,7 @@ module _ (records text input : List ℕ) where
             is = rw (le-leb (length records) 6144 h, eq-eqb (length records % 4) 0 e, lt-leb (length text) 65536 l);
           }
 
-      pub line_decides : length text ≤ 65536 → {a : Line} → Parsed input a → Decided records text input a
+      pub line_decides : length text ≤ 65536 → {a : code.Option Fields} → Parsed input a → Decided records text input a
       unfolding given_by record_file input_of
       line_decides l q =
           record {
@@ -51,7 +51,7 @@ module _ (records text input : List ℕ) where
           }
 
 -- what an answer of `input_of` says where it is fit: what is given, and the sizes of the files
-module _ (records text input : List ℕ) {a : Line} {f : Fields} (e : a ≡ Fit f) (q : Decided records text input a) where
+module _ (records text input : List ℕ) {a : code.Option Fields} {f : Fields} (e : a ≡ Some f) (q : Decided records text input a) where
   pub fit_given : input_of records text input ≡ some (record { table = numbers_of records; text = text; line = record { mode = f.mode; rules = f.rules; currency = cut f.currency input; identifier = cut f.identifier input } })
   unfolding given_by
   fit_given = sym (rw e at q.says)
@@ -78,7 +78,7 @@ module _ (records text input : List ℕ) (few : length records ≤ 256 * 6 * 4) 
   within_given =
       rw (le-leb (length records) 6144 few, eq-eqb (length records % 4) 0 whole, le-leb (length text) 65536 short, formed_line m r c i input form)
 
-  pub within_fit : (a : Line) → Decided records text input a → (f : Fields) × (a ≡ Fit f)
+  pub within_fit : (a : code.Option Fields) → Decided records text input a → (f : Fields) × (a ≡ Some f)
   unfolding given_by
-  within_fit Unfit q = absurd (none-ne-some _ (q.says ∙ within_given))
-  within_fit (Fit f) q = (f, refl)
+  within_fit None q = absurd (none-ne-some _ (q.says ∙ within_given))
+  within_fit (Some f) q = (f, refl)

@@ -1,36 +1,29 @@
 -- What an input line says, field by field.
 use mathlib.Core.Path.{◌≡◌, refl, sym, ap, ◌∙◌}
-use mathlib.Core.Bool.{Bool, true, false, cond, not, ◌&&◌}
+use mathlib.Core.Bool.{Bool, true, false, cond, ◌&&◌}
 use mathlib.Core.List.{List, [], ◌∷◌}
 use mathlib.Core.Logic.{◌⊎◌, inl, inr}
 use mathlib.Core.Option.{Option, none, some, map, bind}
 use Prim.Native.Nat.{ℕ, ◌+◌, ◌≤◌, ◌<◌}
-use native.Mathlib.Decide.{dec_lt}
 use native.Mathlib.Omega.{arith}
-use borrow.Author.Tests.{not-true, not-false, le-leb, lt-leb}
+use borrow.Author.Tests.{le-leb, lt-leb}
 use lib.ListN.{length, drop}
-use Rattle.text.specs.declared.digit.Numeral.{Numeral}
-use Rattle.text.specs.declared.digit.Numeral.TheVariants.{Number, Unfit}
 use Rattle.text.specs.declared.span.Span.{Span}
 use Rattle.text.specs.Digits.{number, numeral_of}
 use Rattle.text.specs.Span.{cut}
 use Rattle.text.proofs.Bools.{not_both}
 use Rattle.text.proofs.Digits.{is_numeral, no_numeral}
 use Rattle.inputs.specs.Line.{parted, numeral, filled, or_none, fields_of, longest, line_of}
-use Rattle.inputs.specs.Places.{line_at, space_at, field_at, closing, name_at, fit_at, line_in, Parsed}
-use Rattle.inputs.specs.declared.input_line.Line as Code
-use Rattle.inputs.specs.declared.input_line.Line.TheVariants as Line
-use Rattle.inputs.proofs.Bytes.{name_bytes, no_space}
+use Rattle.inputs.specs.Places.{line_at, space_at, field_at, spaced_at, closing, name_at, named_at, fit_at, line_in, Parsed}
+use Rattle.inputs.proofs.Bytes.{name_bytes, space_inside}
 use Rattle.inputs.proofs.Parting.{Behind, spaced, ended, broken, field_behind, parted_some}
+use Rattle.std.specs.declared.option.Option as code
+use Rattle.std.specs.Prelude.{None, Some}
+use Rattle.inputs.specs.declared.input_line.Fields.{Fields}
 
-pub long_line : (s : List ℕ) → longest < length s → Parsed s Line.Unfit
+pub long_line : (s : List ℕ) → longest < length s → Parsed s None
 unfolding line_of line_in
 long_line s h = record { says = rw (lt-leb (length s) longest h); is = rw (lt-leb (length s) longest h) }
-
--- a space stands inside the text
-pub space_inside : (s : List ℕ) (i : ℕ) {b : Bool} → b ≡ space_at s i → not b ≡ false → i < length s
-space_inside s i {b} e t =
-    elim (dec_lt i (length s)) [ yes h ↦ h | no h ↦ absurd (not_both (sym e ∙ not-false b t) (sym (no_space s i (omega arith)))) ]
 
 -- the fields of s are those of o behind some others, which g puts there
 record Led (s : List ℕ) (g : List (List ℕ) → List (List ℕ)) (o : Option (List (List ℕ))) : Type 0 where
@@ -87,99 +80,142 @@ module _ (s : List ℕ) (m r c i : Span) where
   unfolding fit_at fields_of
   fit_says = go (numeral (cut m s) && numeral (cut r s) && filled (cut c s) && filled (cut i s))
     where
-      go : (b : Bool) → line_at s (cond b (Line.Fit (record { mode = number 0 (cut m s); rules = number 0 (cut r s); currency = name_at s c; identifier = name_at s i })) Line.Unfit) ≡ cond b (some (record { mode = number 0 (cut m s); rules = number 0 (cut r s); currency = or_none (cut c s); identifier = or_none (cut i s) })) none
+      go : (b : Bool) → line_at s (cond b (Some (record { mode = number 0 (cut m s); rules = number 0 (cut r s); currency = name_at s c; identifier = name_at s i })) None) ≡ cond b (some (record { mode = number 0 (cut m s); rules = number 0 (cut r s); currency = or_none (cut c s); identifier = or_none (cut i s) })) none
       go true = rw (name_bytes s c, name_bytes s i)
       go false = refl
 
-  module _ {bm : List ℕ} (em : bm ≡ cut m s) {x : Numeral} (ex : x ≡ numeral_of 9 bm) where
-    pub mode_unfit : x ≡ Unfit → Line.Unfit ≡ fit_at s m r c i
+  named_none : (p : Span) → None ≡ named_at s p → filled (cut p s) ≡ false
+  unfolding named_at
+  named_none p e = go (filled (cut p s)) (name_at s p) e
+    where
+      go : (b : Bool) (q : Span) → ◌≡◌ {A = code.Option Span} None (cond b (Some q) None) → b ≡ false
+      go true q e = absurd (cc)
+      go false q e = refl
+
+  named_some : (p : Span) {q : Span} → Some q ≡ named_at s p → (filled (cut p s) ≡ true) × (q ≡ name_at s p)
+  unfolding named_at
+  named_some p {q} e = go (filled (cut p s)) e
+    where
+      go : (b : Bool) {o : Span} → Some q ≡ cond b (Some o) None → (b ≡ true) × (q ≡ o)
+      go true e = (refl, cc)
+      go false e = absurd (cc)
+
+  module _ {bm : List ℕ} (em : bm ≡ cut m s) where
+    pub mode_unfit : None ≡ numeral_of 9 bm → None ≡ fit_at s m r c i
     unfolding fit_at numeral
-    mode_unfit u = rw (← em, no_numeral 9 bm ex (omega arith) u)
+    mode_unfit u = rw (← em, no_numeral 9 bm u (omega arith) refl)
 
-    module _ {n : ℕ} (ux : x ≡ Number n) {br : List ℕ} (er : br ≡ cut r s) {y : Numeral} (ey : y ≡ numeral_of 9 br) where
-      pub rules_unfit : y ≡ Unfit → Line.Unfit ≡ fit_at s m r c i
+    module _ {n : ℕ} (un : Some n ≡ numeral_of 9 bm) {br : List ℕ} (er : br ≡ cut r s) where
+      pub rules_unfit : None ≡ numeral_of 9 br → None ≡ fit_at s m r c i
       unfolding fit_at numeral
-      rules_unfit u = rw (← em, ← er, (is_numeral 9 bm ex ux).0, no_numeral 9 br ey (omega arith) u)
+      rules_unfit u = rw (← em, ← er, (is_numeral 9 bm un refl).0, no_numeral 9 br u (omega arith) refl)
 
-      module _ {k : ℕ} (uy : y ≡ Number k) {p : Bool} (ep : p ≡ filled (cut c s)) where
-        pub currency_unfit : not p ≡ true → Line.Unfit ≡ fit_at s m r c i
+      module _ {k : ℕ} (uk : Some k ≡ numeral_of 9 br) where
+        pub currency_unfit : None ≡ named_at s c → None ≡ fit_at s m r c i
         unfolding fit_at numeral
-        currency_unfit u = rw (← em, ← er, ← ep, (is_numeral 9 bm ex ux).0, (is_numeral 9 br ey uy).0, not-true p u)
+        currency_unfit u = rw (← em, ← er, (is_numeral 9 bm un refl).0, (is_numeral 9 br uk refl).0, named_none c u)
 
-        module _ (up : not p ≡ false) {q : Bool} (eq : q ≡ filled (cut i s)) where
-          pub identifier_unfit : not q ≡ true → Line.Unfit ≡ fit_at s m r c i
+        module _ {d : Span} (ud : Some d ≡ named_at s c) where
+          pub identifier_unfit : None ≡ named_at s i → None ≡ fit_at s m r c i
           unfolding fit_at numeral
-          identifier_unfit u = rw (← em, ← er, ← ep, ← eq, (is_numeral 9 bm ex ux).0, (is_numeral 9 br ey uy).0, not-false p up, not-true q u)
+          identifier_unfit u = rw (← em, ← er, (is_numeral 9 bm un refl).0, (is_numeral 9 br uk refl).0, (named_some c ud).0, named_none i u)
 
-          pub all_fit : not q ≡ false → {d j : Span} → d ≡ name_at s c → j ≡ name_at s i → Line.Fit (record { mode = n; rules = k; currency = d; identifier = j }) ≡ fit_at s m r c i
+          pub all_fit : {j : Span} → Some j ≡ named_at s i → Some (record { mode = n; rules = k; currency = d; identifier = j }) ≡ fit_at s m r c i
           unfolding fit_at numeral
-          all_fit u ed ej =
-              rw (← em, ← er, ← ep, ← eq, (is_numeral 9 bm ex ux).0, (is_numeral 9 br ey uy).0, not-false p up, not-false q u, (is_numeral 9 bm ex ux).1, (is_numeral 9 br ey uy).1, ← ed, ← ej)
+          all_fit uj =
+              rw (← em, ← er, (is_numeral 9 bm un refl).0, (is_numeral 9 br uk refl).0, (named_some c ud).0, (named_some i uj).0, (is_numeral 9 bm un refl).1, (is_numeral 9 br uk refl).1, ← (named_some c ud).1, ← (named_some i uj).1)
+
+-- a field that a space ends, and one that none ends
+spaced_none : (s : List ℕ) (i : ℕ) → None ≡ spaced_at s i → space_at s (field_at s i).end ≡ false
+unfolding spaced_at
+spaced_none s i e = go (space_at s (field_at s i).end) (field_at s i) e
+  where
+    go : (b : Bool) (q : Span) → ◌≡◌ {A = code.Option Span} None (cond b (Some q) None) → b ≡ false
+    go true q e = absurd (cc)
+    go false q e = refl
+
+spaced_some : (s : List ℕ) (i : ℕ) {f : Span} → Some f ≡ spaced_at s i → (f ≡ field_at s i) × (space_at s f.end ≡ true)
+unfolding spaced_at
+spaced_some s i {f} e = go (space_at s (field_at s i).end) refl e
+  where
+    go : (b : Bool) → space_at s (field_at s i).end ≡ b → Some f ≡ cond b (Some (field_at s i)) None → (f ≡ field_at s i) × (space_at s f.end ≡ true)
+    go true t e = let q : f ≡ field_at s i = cc in (q, rw q t)
+    go false t e = absurd (cc)
+
+pub spaced_inside : (s : List ℕ) (i : ℕ) {f : Span} → Some f ≡ spaced_at s i → f.end < length s
+spaced_inside s i {f} e = space_inside s f.end (spaced_some s i e).1
 
 -- the fields of a line, by the places and the answers of the code
-module _ (s : List ℕ) (h : length s ≤ longest) (m : Span) (em : m ≡ field_at s 0) {bm : Bool} (qm : bm ≡ space_at s m.end) where
-  pub one_field : not bm ≡ true → Parsed s Line.Unfit
+module _ (s : List ℕ) (h : length s ≤ longest) where
+  pub one_field : None ≡ spaced_at s 0 → Parsed s None
   unfolding fields_of line_in
   one_field n =
-      let t = not-true bm n in
+      let t = spaced_none s 0 n in
       record {
-        says = led_few s (led_start s h) (sym qm ∙ t) refl (field_behind s 0 m em);
-        is = rw (le-leb (length s) longest h, ← em, ← qm, t);
+        says = led_few s (led_start s h) t refl (field_behind s 0 (field_at s 0) refl);
+        is = rw (le-leb (length s) longest h, t);
       }
 
-  module _ (nm : not bm ≡ false) (r : Span) (er : r ≡ field_at s (m.end + 1)) {br : Bool} (qr : br ≡ space_at s r.end) where
-    tm : bm ≡ true
-    tm = not-false bm nm
+  module _ {m : Span} (sm : Some m ≡ spaced_at s 0) where
+    em : m ≡ field_at s 0
+    em = (spaced_some s 0 sm).0
+
+    tm : space_at s m.end ≡ true
+    tm = (spaced_some s 0 sm).1
 
     led_mode : Led s (λ (fs : List (List ℕ)). cut m s ∷ fs) (parted (drop (m.end + 1) s))
-    led_mode = led_next s (led_start s h) (sym qm ∙ tm) (field_behind s 0 m em)
+    led_mode = led_next s (led_start s h) tm (field_behind s 0 m em)
 
-    pub two_fields : not br ≡ true → Parsed s Line.Unfit
+    pub two_fields : None ≡ spaced_at s (m.end + 1) → Parsed s None
     unfolding fields_of line_in
     two_fields n =
-        let t = not-true br n in
+        let t = spaced_none s (m.end + 1) n in
         record {
-          says = led_few s led_mode (sym qr ∙ t) refl (field_behind s (m.end + 1) r er);
-          is = rw (le-leb (length s) longest h, ← em, ← qm, tm, ← er, ← qr, t);
+          says = led_few s led_mode t refl (field_behind s (m.end + 1) (field_at s (m.end + 1)) refl);
+          is = rw (le-leb (length s) longest h, ← em, tm, t);
         }
 
-    module _ (nr : not br ≡ false) (c : Span) (ec : c ≡ field_at s (r.end + 1)) {bc : Bool} (qc : bc ≡ space_at s c.end) where
-      tr : br ≡ true
-      tr = not-false br nr
+    module _ {r : Span} (sr : Some r ≡ spaced_at s (m.end + 1)) where
+      er : r ≡ field_at s (m.end + 1)
+      er = (spaced_some s (m.end + 1) sr).0
+
+      tr : space_at s r.end ≡ true
+      tr = (spaced_some s (m.end + 1) sr).1
 
       led_rules : Led s (λ (fs : List (List ℕ)). cut m s ∷ cut r s ∷ fs) (parted (drop (r.end + 1) s))
-      led_rules = led_next s led_mode (sym qr ∙ tr) (field_behind s (m.end + 1) r er)
+      led_rules = led_next s led_mode tr (field_behind s (m.end + 1) r er)
 
-      pub three_fields : not bc ≡ true → Parsed s Line.Unfit
+      pub three_fields : None ≡ spaced_at s (r.end + 1) → Parsed s None
       unfolding fields_of line_in
       three_fields n =
-          let t = not-true bc n in
+          let t = spaced_none s (r.end + 1) n in
           record {
-            says = led_few s led_rules (sym qc ∙ t) refl (field_behind s (r.end + 1) c ec);
-            is = rw (le-leb (length s) longest h, ← em, ← qm, tm, ← er, ← qr, tr, ← ec, ← qc, t);
+            says = led_few s led_rules t refl (field_behind s (r.end + 1) (field_at s (r.end + 1)) refl);
+            is = rw (le-leb (length s) longest h, ← em, tm, ← er, tr, t);
           }
 
-      module _ (nc : not bc ≡ false) (i : Span) (ei : i ≡ field_at s (c.end + 1)) {bi : Bool} (qi : bi ≡ closing (drop i.end s)) where
-        tc : bc ≡ true
-        tc = not-false bc nc
+      module _ {c : Span} (sc : Some c ≡ spaced_at s (r.end + 1)) {i : Span} (ei : i ≡ field_at s (c.end + 1)) {bi : Bool} (qi : bi ≡ closing (drop i.end s)) where
+        ec : c ≡ field_at s (r.end + 1)
+        ec = (spaced_some s (r.end + 1) sc).0
+
+        tc : space_at s c.end ≡ true
+        tc = (spaced_some s (r.end + 1) sc).1
 
         led_currency : Led s (λ (fs : List (List ℕ)). cut m s ∷ cut r s ∷ cut c s ∷ fs) (parted (drop (c.end + 1) s))
-        led_currency = led_next s led_rules (sym qc ∙ tc) (field_behind s (r.end + 1) c ec)
+        led_currency = led_next s led_rules tc (field_behind s (r.end + 1) c ec)
 
-        pub five_fields : not bi ≡ true → Parsed s Line.Unfit
+        pub five_fields : bi ≡ false → Parsed s None
         unfolding fields_of line_in
-        five_fields n =
-            let t = not-true bi n in
+        five_fields t =
             record {
               says = led_many s led_currency (drop (i.end + 1) s) (sym qi ∙ t) (λ f fs. refl) (field_behind s (c.end + 1) i ei);
-              is = rw (le-leb (length s) longest h, ← em, ← qm, tm, ← er, ← qr, tr, ← ec, ← qc, tc, ← ei, ← qi, t);
+              is = rw (le-leb (length s) longest h, ← em, tm, ← er, tr, ← ec, tc, ← ei, ← qi, t);
             }
 
-        pub four_fields : not bi ≡ false → {a : Code.Line} → a ≡ fit_at s m r c i → Parsed s a
+        pub four_fields : bi ≡ true → {a : code.Option Fields} → a ≡ fit_at s m r c i → Parsed s a
         unfolding line_in
-        four_fields n e =
-            let t = not-false bi n in
+        four_fields t e =
             record {
               says = ap (line_at s) e ∙ fit_says s m r c i ∙ sym (led_last s led_currency (sym qi ∙ t) (field_behind s (c.end + 1) i ei));
-              is = e ∙ rw (le-leb (length s) longest h, ← em, ← qm, tm, ← er, ← qr, tr, ← ec, ← qc, tc, ← ei, ← qi, t);
+              is = e ∙ rw (le-leb (length s) longest h, ← em, tm, ← er, tr, ← ec, tc, ← ei, ← qi, t);
             }

@@ -1,11 +1,9 @@
 // The input line: mode, rules, currency and identifier.
 ghost use Rattle.std.specs.Prelude.{◌≡◌};
-ghost use Rattle.text.specs.Span.{cut};
-ghost use Rattle.inputs.specs.Line.{filled};
-ghost use Rattle.inputs.specs.Places.{name_at, fit_at, Parsed};
+ghost use Rattle.inputs.specs.Places.{spaced_at, named_at, fit_at, Parsed};
 
 use crate::parts::{bytes_at, field_at, is_closing, is_space};
-use text::{Numeral, Span, numeral_of};
+use text::{Span, numeral_of};
 
 // The most bytes of an input line, with its line feed.
 const LONGEST: usize = 4194304;
@@ -23,82 +21,61 @@ pub struct Fields {
     pub identifier: Span,
 }
 
-// The fields of an input line, or that the line, or a file beside it, is unfit.
-#[derive(Clone, Copy)]
-pub enum Line {
-    Unfit,
-    Fit(Fields),
-}
-
-// The place of a currency or an identifier, empty where `-` stands for none.
-fn name_at(input: &[u8], place: Span) -> Span
-    ensures { result ≡ name_at input.now place }
+// The place of a currency or an identifier, empty where `-` stands for none; none where the field is empty.
+#[tactic(auto, using(crate::proofs::Bytes::name_long), unfolding(crate::specs::Line::filled, crate::specs::Places::name_at, crate::specs::Places::named_at, text::specs::Order::equal))]
+fn name_at(input: &[u8], place: Span) -> Option<Span>
+    ensures { result ≡ named_at input.now place }
 {
-    let start = place.start;
-    if text::same(bytes_at(input, place), b"-") {
-        return Span { start, end: start };
+    match bytes_at(input, place) {
+        [] => None,
+        [b'-'] => Some(Span {
+            start: place.start,
+            end: place.start,
+        }),
+        _ => Some(place),
     }
-    place
-}
-
-// Whether a byte stands at a place.
-fn is_filled(input: &[u8], place: Span) -> bool
-    ensures { result ≡ filled (cut place input.now) }
-{
-    let bytes = bytes_at(input, place);
-    0 < bytes.len()
 }
 
 // What four fields say, by their places.
-fn fields_of(input: &[u8], mode: Span, rules: Span, currency: Span, identifier: Span) -> Line
+fn fields_of(
+    input: &[u8],
+    mode: Span,
+    rules: Span,
+    currency: Span,
+    identifier: Span,
+) -> Option<Fields>
     ensures { result ≡ fit_at input.now mode rules currency identifier }
 {
-    let mode_number = numeral_of(bytes_at(input, mode), DIGITS);
-    let Numeral::Number(mode) = mode_number else {
-        return Line::Unfit;
-    };
-    let rules_number = numeral_of(bytes_at(input, rules), DIGITS);
-    let Numeral::Number(rules) = rules_number else {
-        return Line::Unfit;
-    };
-    if !is_filled(input, currency) {
-        return Line::Unfit;
-    }
-    if !is_filled(input, identifier) {
-        return Line::Unfit;
-    }
-    let currency = name_at(input, currency);
-    let identifier = name_at(input, identifier);
-    Line::Fit(Fields {
-        mode,
-        rules,
-        currency,
-        identifier,
+    Some(Fields {
+        mode: numeral_of(bytes_at(input, mode), DIGITS)?,
+        rules: numeral_of(bytes_at(input, rules), DIGITS)?,
+        currency: name_at(input, currency)?,
+        identifier: name_at(input, identifier)?,
     })
 }
 
+// The field that begins at start, if a space ends it.
+#[tactic(auto, unfolding(crate::specs::Places::spaced_at))]
+fn spaced_at(input: &[u8], start: usize) -> Option<Span>
+    ensures { result ≡ spaced_at input.now start }
+{
+    let field = field_at(input, start);
+    is_space(input, field.end).then_some(field)
+}
+
 // What an input line says.
-pub fn parse_line(input: &[u8]) -> Line
+pub fn parse_line(input: &[u8]) -> Option<Fields>
     ensures { Parsed input.now result }
 {
-    if LONGEST < input.len() {
-        return Line::Unfit;
+    if input.len() > LONGEST {
+        return None;
     }
-    let mode = field_at(input, 0);
-    if !is_space(input, mode.end) {
-        return Line::Unfit;
-    }
-    let rules = field_at(input, mode.end + 1);
-    if !is_space(input, rules.end) {
-        return Line::Unfit;
-    }
-    let currency = field_at(input, rules.end + 1);
-    if !is_space(input, currency.end) {
-        return Line::Unfit;
-    }
+    let mode = spaced_at(input, 0)?;
+    let rules = spaced_at(input, mode.end + 1)?;
+    let currency = spaced_at(input, rules.end + 1)?;
     let identifier = field_at(input, currency.end + 1);
     if !is_closing(input, identifier.end) {
-        return Line::Unfit;
+        return None;
     }
     fields_of(input, mode, rules, currency, identifier)
 }

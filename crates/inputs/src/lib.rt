@@ -11,5 +11,5 @@ mod input_line;
 mod parts;
 
 pub use files::{input_of, numbers_of};
-pub use input_line::{Fields, Line, parse_line};
+pub use input_line::{Fields, parse_line};
 pub use parts::bytes_at;

@@ -1,9 +1,11 @@
 // The children of a settlement, by their names.
-ghost use Rattle.std.specs.Prelude.{◌≡◌, drop};
-ghost use Rattle.settlement.specs.Kinds.{other, meant, kinds, kind_named};
+ghost use Rattle.std.specs.Prelude.{◌≡◌};
+ghost use Rattle.settlement.specs.Kinds.{kind_named};
 ghost use Rattle.settlement.specs.Settlement.{kind_of};
-ghost use Rattle.element.specs.LinkDoc.{link_doc};
+ghost use Rattle.element.specs.LinkDoc.{doc_of};
 ghost use Rattle.kinds.specs.Kinds.{kind_is};
+
+use element::Document;
 
 // A child that gives a term or a group alone.
 #[derive(Clone, Copy)]
@@ -43,55 +45,67 @@ pub enum Kind {
     Other,
 }
 
-// What a name stands for that makes no row.
-fn other_kind(name: &[u8]) -> Kind
-    ensures { kind_is result ≡ meant other (drop 4 kinds) name.now }
-{
-    let names = b"\x13CreditorReferenceID\
-        \x10PaymentReference\
-        \x0fTaxCurrencyCode\
-        \x13InvoiceCurrencyCode\
-        \x0fPayeeTradeParty\
-        \x24SpecifiedTradeSettlementPaymentMeans\
-        \x16BillingSpecifiedPeriod\
-        \x1aSpecifiedTradePaymentTerms\
-        \x2fSpecifiedTradeSettlementHeaderMonetarySummation\
-        \x29ReceivableSpecifiedTradeAccountingAccount";
-    match text::place_of(names, name) {
-        0 => Kind::Plain(PlainKind::CreditorReference),
-        1 => Kind::Plain(PlainKind::PaymentReference),
-        2 => Kind::Plain(PlainKind::TaxCurrency),
-        3 => Kind::Plain(PlainKind::InvoiceCurrency),
-        4 => Kind::Plain(PlainKind::Payee),
-        5 => Kind::Billing(BillingKind::PaymentMeans),
-        6 => Kind::Billing(BillingKind::Period),
-        7 => Kind::Billing(BillingKind::PaymentTerms),
-        8 => Kind::Summation,
-        9 => Kind::Plain(PlainKind::Accounting),
-        _ => Kind::Other,
-    }
-}
+// The names that are read. Most children make rows, so theirs come first.
+const KINDS: [(&[u8], Kind); 14] = [
+    (b"ApplicableTradeTax", Kind::Row(RowKind::TradeTax)),
+    (
+        b"SpecifiedTradeAllowanceCharge",
+        Kind::Row(RowKind::AllowanceCharge),
+    ),
+    (
+        b"SpecifiedLogisticsServiceCharge",
+        Kind::Row(RowKind::LogisticsCharge),
+    ),
+    (
+        b"InvoiceReferencedDocument",
+        Kind::Row(RowKind::PrecedingInvoice),
+    ),
+    (
+        b"CreditorReferenceID",
+        Kind::Plain(PlainKind::CreditorReference),
+    ),
+    (
+        b"PaymentReference",
+        Kind::Plain(PlainKind::PaymentReference),
+    ),
+    (b"TaxCurrencyCode", Kind::Plain(PlainKind::TaxCurrency)),
+    (
+        b"InvoiceCurrencyCode",
+        Kind::Plain(PlainKind::InvoiceCurrency),
+    ),
+    (b"PayeeTradeParty", Kind::Plain(PlainKind::Payee)),
+    (
+        b"SpecifiedTradeSettlementPaymentMeans",
+        Kind::Billing(BillingKind::PaymentMeans),
+    ),
+    (
+        b"BillingSpecifiedPeriod",
+        Kind::Billing(BillingKind::Period),
+    ),
+    (
+        b"SpecifiedTradePaymentTerms",
+        Kind::Billing(BillingKind::PaymentTerms),
+    ),
+    (
+        b"SpecifiedTradeSettlementHeaderMonetarySummation",
+        Kind::Summation,
+    ),
+    (
+        b"ReceivableSpecifiedTradeAccountingAccount",
+        Kind::Plain(PlainKind::Accounting),
+    ),
+];
 
-// What a name stands for. Most children make rows, and the fewer names a table has the sooner it is made.
+// What a name stands for.
 fn kind_named(name: &[u8]) -> Kind
     ensures { kind_is result ≡ kind_named name.now }
 {
-    let names = b"\x12ApplicableTradeTax\
-        \x1dSpecifiedTradeAllowanceCharge\
-        \x1fSpecifiedLogisticsServiceCharge\
-        \x19InvoiceReferencedDocument";
-    match text::place_of(names, name) {
-        0 => Kind::Row(RowKind::TradeTax),
-        1 => Kind::Row(RowKind::AllowanceCharge),
-        2 => Kind::Row(RowKind::LogisticsCharge),
-        3 => Kind::Row(RowKind::PrecedingInvoice),
-        _ => other_kind(name),
-    }
+    text::meaning_of(&KINDS, name).unwrap_or(Kind::Other)
 }
 
 // What element c is.
-pub fn kind_of(table: &[u32], text: &[u8], links: &[u16], c: usize) -> Kind
-    ensures { kind_is result ≡ kind_of (link_doc table.now text.now links.now) c }
+pub fn kind_of(doc: &Document, c: usize) -> Kind
+    ensures { kind_is result ≡ kind_of (doc_of doc.now) c }
 {
-    kind_named(element::shown(text, element::name(table, c)))
+    kind_named(doc.shown(doc.name(c)))
 }

@@ -1,4 +1,2 @@
-pub mod Written
-pub mod Lines
 pub mod Texts
 pub mod OwnTexts

@@ -1,5 +1,4 @@
 pub mod Wrote
-pub mod Line
 pub mod Text
 pub mod PathText
 pub mod TermName

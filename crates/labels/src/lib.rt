@@ -5,10 +5,10 @@
 // function has a `requires`, and the crate assumes nothing of its own.
 #![tactic(auto)]
 
-mod line;
 mod list;
 mod parent;
 mod path;
+mod table;
 mod term;
 
 pub use list::put_bytes;

@@ -2,18 +2,20 @@
 ghost use Rattle.labels.specs.ParentName.{parent_name_at};
 ghost use Rattle.labels.specs.Wrote.{Wrote};
 
-use crate::line::put_line;
+use crate::table::put_text;
 
-// The elements' names, a line for each number from 0, which none has.
-const TEXTS: [u8; 117] = *b"
-ApplicableHeaderTradeSettlement
-SpecifiedTradeSettlementHeaderMonetarySummation
-SpecifiedTradeSettlementPaymentMeans";
+// The elements' names, by their numbers from 0, which none has.
+const NAMES: [&str; 4] = [
+    "",
+    "ApplicableHeaderTradeSettlement",
+    "SpecifiedTradeSettlementHeaderMonetarySummation",
+    "SpecifiedTradeSettlementPaymentMeans",
+];
 
 // Puts the name of the element that has a number into out at a place, as far as there is room, and
 // answers its length.
 pub fn put_parent_name(out: &mut [u8], at: usize, number: usize) -> usize
     ensures { Wrote out.old at (parent_name_at number) out.new result }
 {
-    put_line(out, at, &TEXTS, number)
+    put_text(out, at, &NAMES, number)
 }

@@ -6,63 +6,42 @@
 #![tactic(auto)]
 
 ghost use Rattle.settlement.specs.Payments.{payment_means_of};
-ghost use Rattle.element.specs.LinkDoc.{link_doc};
+ghost use Rattle.element.specs.LinkDoc.{doc_of, lent_text};
 ghost use Rattle.unmapped.specs.Acted.{Acted};
 ghost use Rattle.payment.specs.Walks.{payment_of};
 
-use payment::{Payment, PaymentSaid};
-use report::Cursor;
+use element::Document;
+use payment::Payment;
+use report::HeldRows;
+use unmapped::UnmappedRows;
+use values::Entries;
 
-// Fills in the payment that is lent, by the payment means that is element n, and answers where the
-// next rows go.
+// Fills in the payment that is lent, by the payment means that is element n.
 pub fn payment_means(
-    table: &[u32],
-    text: &[u8],
-    links: &[u16],
-    held: &mut [i64],
-    entries: &mut [i64],
-    unmapped: &mut [i64],
-    cursor: Cursor,
+    doc: &Document,
+    held: &mut HeldRows,
+    entries: &mut Entries,
+    unmapped: &mut UnmappedRows,
     payment: &mut Payment,
     n: usize,
-) -> Cursor
-    ensures { Acted (payment_means_of (link_doc table.now text.now links.now) (payment_of payment.old) n) text.now (payment_of payment.new) cursor result held.old held.new entries.old entries.new unmapped.old unmapped.new }
+)
+    ensures { Acted (payment_means_of (doc_of doc.now) (payment_of payment.old) n) (lent_text doc.now) (payment_of payment.new) held.old held.new entries.old entries.new unmapped.old unmapped.new }
 {
-    let said = payment::fill_in(
-        table, text, links, held, entries, unmapped, cursor, *payment, n,
-    );
-    *payment = said.payment;
-    said.cursor
+    *payment = payment::fill_in(doc, held, entries, unmapped, *payment, n);
 }
 
-// The same for a payment by value, which is lent from a local.
+// The same for a payment by value, which is lent from a local: callers that hold one need no variable.
 pub fn filled_in(
-    table: &[u32],
-    text: &[u8],
-    links: &[u16],
-    held: &mut [i64],
-    entries: &mut [i64],
-    unmapped: &mut [i64],
-    cursor: Cursor,
+    doc: &Document,
+    held: &mut HeldRows,
+    entries: &mut Entries,
+    unmapped: &mut UnmappedRows,
     payment: Payment,
     n: usize,
-) -> PaymentSaid
-    ensures { Acted (payment_means_of (link_doc table.now text.now links.now) (payment_of payment) n) text.now (payment_of result.payment) cursor result.cursor held.old held.new entries.old entries.new unmapped.old unmapped.new }
+) -> Payment
+    ensures { Acted (payment_means_of (doc_of doc.now) (payment_of payment) n) (lent_text doc.now) (payment_of result) held.old held.new entries.old entries.new unmapped.old unmapped.new }
 {
     let mut so_far = payment;
-    let cursor = payment_means(
-        table,
-        text,
-        links,
-        held,
-        entries,
-        unmapped,
-        cursor,
-        &mut so_far,
-        n,
-    );
-    PaymentSaid {
-        payment: so_far,
-        cursor,
-    }
+    payment_means(doc, held, entries, unmapped, &mut so_far, n);
+    so_far
 }

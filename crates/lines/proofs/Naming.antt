@@ -4,7 +4,7 @@ use mathlib.Core.Bool.{true, false}
 use mathlib.Core.List.{List, [], ◌∷◌}
 use Prim.Native.Nat.{ℕ}
 use native.Mathlib.Omega.{arith}
-use borrow.Author.Tests.{eqb-true}
+use borrow.Author.Tests.{eq-eqb, ne_eqb}
 use lib.Dec.{eqb}
 use lib.Signed.{lt_z}
 use lib.IntN.{ℤ, pos, nat_abs}
@@ -19,12 +19,16 @@ use Rattle.labels.specs.PathText.{path_text_at}
 use Rattle.labels.specs.TermName.{term_group_at, term_name_at}
 use Rattle.labels.specs.ParentName.{parent_name_at}
 use Rattle.report.specs.Placed.{behind, Placed}
-use Rattle.report.proofs.Placing.{placed_none, placed_then}
+use Rattle.report.proofs.Placing.{placed_none, placed_then, placed_by}
 use Rattle.decimals.specs.Decimal.{decimal, natural}
-use Rattle.decimals.proofs.Putting.{placed_wrote, placed_as}
+use Rattle.decimals.proofs.Putting.{placed_as}
 use Rattle.decimals.proofs.Signs.{held, below, above}
 use Rattle.fields.specs.Line.{printable, field}
 use Rattle.lines.specs.Labels.{bracketed, group_text, term_text, term_shown, unmapped_path, name_shown}
+
+-- a text that was written, and the place behind it
+placed_wrote : {l t m : List ℕ} {at n r : ℕ} → Wrote l at t m n → r ≡ behind (length m) at n → Placed l at t m r
+placed_wrote {l} {t} {m} {at} {n} w e = placed_by w.now (e ∙ ap (behind (length m) at) w.size)
 
 natural_held : {z : ℤ} {k : ℕ} → SFits w64 z → k ≡ natural (held z) → k ≡ natural z
 natural_held f e = e ∙ ap natural (to_z-of_z f)
@@ -46,17 +50,17 @@ module _ {z : ℤ} (f : SFits w64 z) where
       placed_as (rw h (sym (ap bracketed (above f e).1))) (placed_then (placed_then p d) q)
 
   -- a term with its group, or alone
-  pub group_none : (g : List ℕ) {l m : List ℕ} {at w : ℕ} → Wrote l at g m w → eqb w 0 ≡ true → Placed l at (group_text g z) m at
+  pub group_none : (g : List ℕ) {l m : List ℕ} {at w : ℕ} → Wrote l at g m w → w ≡ 0 → Placed l at (group_text g z) m at
   unfolding group_text
   group_none [] {l} {m} {at} p e = record { now = p.now; end = (placed_none l at).end }
-  group_none (b ∷ g) {l} {m} {at} {w} p e = absurd (omega (arith, p.size, eqb-true w 0 e))
+  group_none (b ∷ g) {l} {m} {at} {w} p e = absurd (omega (arith, p.size))
 
   pub group_put :
-      {g l m n o : List ℕ} {at i j r w : ℕ} → Wrote l at g m w → eqb w 0 ≡ false → i ≡ behind (length m) at w → Placed m i (bracketed (held z)) n j → Placed n j (0x2F ∷ []) o r →
+      {g l m n o : List ℕ} {at i j r w : ℕ} → Wrote l at g m w → (w ≡ 0 → ⊥) → i ≡ behind (length m) at w → Placed m i (bracketed (held z)) n j → Placed n j (0x2F ∷ []) o r →
       Placed l at (group_text g z) o r
   unfolding group_text bytes encode
-  group_put {g} p e b q s =
-      let h : eqb (length g) 0 ≡ false = ap (λ (n : ℕ). eqb n 0) (sym p.size) ∙ e in
+  group_put {g} {w = w} p e b q s =
+      let h : eqb (length g) 0 ≡ false = ap (λ (n : ℕ). eqb n 0) (sym p.size) ∙ ne_eqb w 0 e in
       rw h (placed_then (placed_then (placed_wrote p b) (placed_as (ap bracketed (to_z-of_z f)) q)) s)
 
   pub term_put : (g : List ℕ) {t l m n : List ℕ} {at i r w : ℕ} → Placed l at (group_text g (held z)) m i → Wrote m i t n w → r ≡ behind (length n) i w → Placed l at (term_text g z t) n r
@@ -64,13 +68,13 @@ module _ {z : ℤ} (f : SFits w64 z) where
   term_put g p q b = placed_then (placed_as (ap (group_text g) (to_z-of_z f)) p) (placed_wrote q b)
 
 module _ {a b : ℤ} (f : SFits w64 a) (g : SFits w64 b) {k : ℕ} (e : k ≡ natural (held a)) {l m n : List ℕ} {at i r : ℕ} (p : Placed l at (0x9 ∷ []) m i) where
-  pub term_none : eqb k 0 ≡ true → Placed m i (0x2D ∷ []) n r → Placed l at (0x9 ∷ field (term_shown (natural a) b)) n r
+  pub term_none : k ≡ 0 → Placed m i (0x2D ∷ []) n r → Placed l at (0x9 ∷ field (term_shown (natural a) b)) n r
   unfolding term_shown field bytes encode
-  term_none h q = rw (← natural_held f e, h) (placed_then p q)
+  term_none h q = rw (← natural_held f e, eq-eqb k 0 h) (placed_then p q)
 
-  pub term_there : eqb k 0 ≡ false → Placed m i (term_text (term_group_at k) (held b) (term_name_at k)) n r → Placed l at (0x9 ∷ field (term_shown (natural a) b)) n r
+  pub term_there : (k ≡ 0 → ⊥) → Placed m i (term_text (term_group_at k) (held b) (term_name_at k)) n r → Placed l at (0x9 ∷ field (term_shown (natural a) b)) n r
   unfolding term_shown field
-  term_there h q = rw (← natural_held f e, h) (placed_then p (rw (to_z-of_z g) at q))
+  term_there h q = rw (← natural_held f e, ne_eqb k 0 h) (placed_then p (rw (to_z-of_z g) at q))
 
 -- an unmapped element's path
 pub unmapped_put :

@@ -37,8 +37,7 @@ fn put_group(out: &mut [u8], at: usize, number: usize, index: i64) -> usize
     ensures { Placed out.old at (group_text (term_group_at number) index) out.new result }
 {
     let n = labels::put_group_name(out, at, number);
-    let alone = n == 0;
-    if alone {
+    if n == 0 {
         return at;
     }
     let next = report::behind(out.len(), at, n);
@@ -62,8 +61,7 @@ pub fn put_term_field(out: &mut [u8], at: usize, number: i64, index: i64) -> usi
 {
     let next = put_byte(out, at, b'\t');
     let term = natural(number);
-    let none = term == 0;
-    if none {
+    if term == 0 {
         return put_byte(out, next, b'-');
     }
     put_term(out, next, term, index)

@@ -1,25 +1,29 @@
--- The turns of the loops over links: that which fills them, and those over the list that they spell, at record c with `left` steps to go.
+-- The turns of the loop that fills links, those of loops over the list that they spell, at record c with `left` steps to go, and what `find` answers over an iterator.
 use mathlib.Core.Path.{◌≡◌, refl, sym, ap, ◌∙◌}
-use mathlib.Core.Logic.{◌≢◌}
-use mathlib.Core.Bool.{Bool, true, false}
+use mathlib.Core.Logic.{◌≢◌, ◌⊎◌, inl, inr}
+use mathlib.Core.Bool.{Bool, true, false, cond, ◌&&◌}
 use mathlib.Core.List.{List, [], ◌∷◌, foldl}
-use mathlib.Core.Option.{Option, none, some}
-use Prim.Native.Nat.{ℕ, zero, suc, ◌+◌, ◌*◌, ◌-◌, ◌/◌, ◌≤◌, ◌<◌}
+use mathlib.Core.Option.{Option, some}
+use Prim.Native.Nat.{ℕ, zero, suc, ◌*◌, ◌-◌, ◌/◌, ◌≤◌, ◌<◌}
 use native.Mathlib.Omega.{arith}
 use borrow.Author.Tests.{ne_eqb, le-leb, lt-leb}
-use lib.ListN.{length, get_or}
-use Rattle.text.proofs.Spans.{past}
+use lib.Dec.{eqb, leb}
+use lib.ListN.{length}
+use denote.Param.Members.{Mut}
+use denote.Ref.{Bor}
+use Rattle.std.proofs.lemmas.Iterator.Consumers.{YieldsList-from_first}
+use Rattle.std.proofs.lemmas.Iterator.Search.{find_from_yields_List}
+use Rattle.std.specs.Bool.{⊤}
+use Rattle.std.specs.Fn.{CalledAt}
+use Rattle.std.specs.Iterator.{YieldsThen, YieldsFirst}
+use Rattle.std.specs.List.{FoldsTo, find}
+use Rattle.std.specs.Option.{MatchOption, option_map, unwrap_or}
+use Rattle.std.specs.Prelude.{Some, None}
+use Rattle.std.specs.declared.option.Option as code
 use Rattle.table.specs.Table.{records, cell, first_of, found}
+use Rattle.links.specs.Siblings.{siblings}
+use Rattle.links.specs.declared.siblings.Siblings.{Siblings}
 use Rattle.links.specs.Links.{link, chain, linked, in_front, joins, link_one, link_below, roomy, link_all}
-
--- the link that the code reads, and one past the end
-pub link_is : (l : List ℕ) (i k n : ℕ) → n ≡ get_or l (i * 3 + k) 0 → n ≡ link l i k
-unfolding link
-link_is l i k n e = e
-
-pub link_past : (l : List ℕ) (i k : ℕ) → length l ≤ i → 0 ≡ link l i k
-unfolding link
-link_past l i k h = past l (i * 3 + k) (omega arith)
 
 -- one record linked, or passed over
 module _ (t l : List ℕ) (j kind p : ℕ) (k : kind ≡ cell t j 0) (q : p ≡ cell t j 1) (b : Bool) (e : b ≡ joins kind p j) where
@@ -51,13 +55,14 @@ module _ (t l : List ℕ) where
   unfolding link_all roomy
   link_roomy h h' r e = e ∙ rw (le-leb (records t * 3) (length l) h, le-leb (records t) 65536 h')
 
-  pub link_many : records t * 3 ≤ length l → 65536 < records t → l ≡ link_all t l
+  pub link_cramped : (length l < records t * 3) ⊎ (65536 < records t) → l ≡ link_all t l
   unfolding link_all roomy
-  link_many h h' = rw (le-leb (records t * 3) (length l) h, lt-leb (records t) 65536 h')
-
-  pub link_cramped : length l < records t * 3 → l ≡ link_all t l
-  unfolding link_all roomy
-  link_cramped h = rw (lt-leb (records t * 3) (length l) h)
+  link_cramped (inl h) = rw (lt-leb (records t * 3) (length l) h)
+  link_cramped (inr h) = go (leb (records t * 3) (length l))
+    where
+      go : (b : Bool) → l ≡ cond (b && leb (records t) 65536) (link_below t (records t) l) l
+      go true = rw (lt-leb (records t) 65536 h)
+      go false = refl
 
 -- every loop over a chain
 module _ (links : List ℕ) where
@@ -94,28 +99,41 @@ module _ {S : Type 0} (f : S → ℕ → S) (links : List ℕ) where
     pub fold_out : left ≤ 0 → s ≡ o
     fold_out h = let z : left ≡ 0 = omega arith in sym (e ∙ rw (z, chain_out links c))
 
--- the search for the first that passes
-module _ (links : List ℕ) (p : ℕ → Bool) where
-  pub search_start : (k i c : ℕ) (o : Option ℕ) → c ≡ link links i k → o ≡ first_of p (chain links (length links / 3) c) → o ≡ first_of p (linked links k i)
-  search_start k i c o e q = q ∙ ap (first_of p) (sym (chain_start links k i c e))
+-- a search that goes on to the next record
+module _ (links : List ℕ) (p : ℕ → Bool) (o : Option ℕ) (left c : ℕ) (e : o ≡ first_of p (chain links left c)) where
+  pub search_turn : 0 < left → c ≢ 0 → (b : Bool) → b ≡ p c → b ≡ false → (d : ℕ) → d ≡ link links c 2 → o ≡ first_of p (chain links (left - 1) d)
+  unfolding first_of
+  search_turn h z b q f d u = e ∙ rw (chain_turn links left c h z, ← q, f, u)
 
-  found_some : (c : ℕ) → c ≢ 0 → found c ≡ some c
-  found_some zero e = absurd (e refl)
-  found_some (suc c) e = refl
+-- no record is 0 among those that links spell, so that a number stands for each
+chain_found : (p : ℕ → Bool) (links : List ℕ) (f c : ℕ) (r : code.Option ℕ) → r ≡ find p (chain links f c) → found (unwrap_or r 0) ≡ first_of p (chain links f c)
+unfolding chain first_of
+chain_found p links zero c r e = rw e refl
+chain_found p links (suc f) c r e = go (eqb c 0) refl e (chain_found p links f (link links c 2) r)
+  where
+    rest : List ℕ
+    rest = chain links f (link links c 2)
 
-  module _ (o : Option ℕ) (left c : ℕ) (e : o ≡ first_of p (chain links left c)) where
-    pub search_zero : c ≡ 0 → none ≡ o
-    unfolding first_of
-    search_zero z = sym (e ∙ rw (z, chain_zero links left))
+    here : (c : ℕ) → eqb c 0 ≡ false → found c ≡ some c
+    here zero e = cc
+    here (suc c) e = refl
 
-    pub search_out : left ≤ 0 → none ≡ o
-    unfolding first_of
-    search_out h = let z : left ≡ 0 = omega arith in sym (e ∙ rw (z, chain_out links c))
+    go : (a : Bool) → eqb c 0 ≡ a → r ≡ find p (cond a [] (c ∷ rest)) → (r ≡ find p rest → found (unwrap_or r 0) ≡ first_of p rest) → found (unwrap_or r 0) ≡ first_of p (cond a [] (c ∷ rest))
+    go true z e h = rw e refl
+    go false z e h = at (p c) e
+      where
+        at : (b : Bool) → r ≡ cond b (Some c) (find p rest) → found (unwrap_or r 0) ≡ cond b (some c) (first_of p rest)
+        at true e = rw e (here c z)
+        at false e = h e
 
-    pub search_here : 0 < left → c ≢ 0 → (b : Bool) → b ≡ p c → b ≡ true → found c ≡ o
-    unfolding first_of
-    search_here h z b q f = found_some c z ∙ sym (e ∙ rw (chain_turn links left c h z, ← q, f))
-
-    pub search_turn : 0 < left → c ≢ 0 → (b : Bool) → b ≡ p c → b ≡ false → (d : ℕ) → d ≡ link links c 2 → o ≡ first_of p (chain links (left - 1) d)
-    unfolding first_of
-    search_turn h z b q f d u = e ∙ rw (chain_turn links left c h z, ← q, f, u)
+-- what `find` answers over an iterator
+pub first_sibling : {F : Type 0} {g : Mut F (Bor ℕ × Unit {0}) Bool} (p : ℕ → Bool) (s u : Siblings) (f : F) (r : code.Option ℕ) →
+    (xs : List ℕ) × (j : F) × YieldsThen (YieldsFirst siblings) s xs r u × FoldsTo (λ p x q. CalledAt g p x false q) f xs j × MatchOption r ⊤ (λ x. (h : F) × CalledAt g j x true h) →
+    ((x : ℕ) (b : Bool) (q : F) → CalledAt g f x b q → (q ≡ f) × (b ≡ p x)) → found (unwrap_or r 0) ≡ first_of p (siblings s)
+unfolding siblings
+first_sibling p s u f r e h =
+    chain_found p s.links.now s.left s.next r (same r ∙ find_from_yields_List p u f r e (YieldsList-from_first (λ x. x) siblings (siblings s) refl) h)
+  where
+    same : (r : code.Option ℕ) → r ≡ option_map (λ (x : ℕ). x) r
+    same (Some x) = refl
+    same None = refl

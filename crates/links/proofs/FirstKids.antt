@@ -4,9 +4,9 @@ use mathlib.Core.Logic.{◌≢◌}
 use mathlib.Core.Bool.{Bool, true, false, cond, ◌&&◌}
 use mathlib.Core.List.{List, [], ◌∷◌, foldl}
 use mathlib.Core.Option.{Option, none, some}
-use Prim.Native.Nat.{ℕ, zero, suc, ◌-◌, ◌/◌, ◌≤◌, ◌<◌}
+use Prim.Native.Nat.{ℕ, zero, suc, ◌/◌, ◌<◌}
 use native.Mathlib.Omega.{arith}
-use borrow.Author.Tests.{lt-ltb, le-ltb, eq-eqb, ne_eqb, eqb-true}
+use borrow.Author.Tests.{lt-ltb, eq-eqb, ne_eqb, eqb-true}
 use lib.Dec.{ltb, eqb}
 use lib.ListN.{length, get_or, set, replicate, length-set, length-replicate, get_or-replicate}
 use lib.Seq.{get_or-set_same, get_or-set_other}
@@ -16,7 +16,6 @@ use Rattle.text.proofs.Places.{place_test}
 use Rattle.table.specs.Table.{name_of, named, first_of, found}
 use Rattle.links.specs.Links.{link, chain, linked}
 use Rattle.links.specs.Firsts.{keep, keep_one, keep_all}
-use Rattle.links.proofs.Chains.{fold_start, fold_turn, fold_zero, fold_out}
 
 -- the number that is kept, or else this
 abbrev or_this : ℕ → ℕ → ℕ
@@ -30,17 +29,13 @@ or_first (suc g) o = some (suc g)
 
 -- a child's number is kept, or not
 module _ (ks : List ℕ) (k c : ℕ) where
-  pub keep_new : k < length ks → get_or ks k 0 ≡ 0 → set ks k c ≡ keep ks k c
+  keep_new : k < length ks → get_or ks k 0 ≡ 0 → set ks k c ≡ keep ks k c
   unfolding keep
   keep_new h e = rw (lt-ltb k (length ks) h, eq-eqb (get_or ks k 0) 0 e)
 
-  pub keep_old : k < length ks → get_or ks k 0 ≢ 0 → ks ≡ keep ks k c
+  keep_old : k < length ks → get_or ks k 0 ≢ 0 → ks ≡ keep ks k c
   unfolding keep
   keep_old h e = rw (lt-ltb k (length ks) h, ne_eqb (get_or ks k 0) 0 e)
-
-  pub keep_out : length ks ≤ k → ks ≡ keep ks k c
-  unfolding keep
-  keep_out h = rw (le-ltb k (length ks) h)
 
   keep_length : length (keep ks k c) ≡ length ks
   unfolding keep
@@ -110,19 +105,3 @@ module _ (t x l w v : List ℕ) (k : ℕ) (e : place (all_names w) v ≡ k) (h :
   first_of_each i n b =
       kept_first (length l / 3) (link l i 0) (replicate n 0) (rw length-replicate b) ∙
       rw (get_or-replicate) refl
-
--- the loop over the children
-module _ (t x l w : List ℕ) where
-  pub each_start : (i c : ℕ) (ks : List ℕ) → c ≡ link l i 0 → keep_all t x l i w ks ≡ foldl (keep_one t x w) ks (chain l (length l / 3) c)
-  unfolding keep_all
-  each_start i c ks e = fold_start (keep_one t x w) l 0 i c ks e
-
-  module _ (o ks : List ℕ) (left c : ℕ) (e : o ≡ foldl (keep_one t x w) ks (chain l left c)) where
-    pub each_turn : 0 < left → c ≢ 0 → (s : List ℕ) → s ≡ name_of t x c → (q : ℕ) → q ≡ place (all_names w) s → (ks' : List ℕ) → ks' ≡ keep ks q c → (d : ℕ) → d ≡ link l c 2 → o ≡ foldl (keep_one t x w) ks' (chain l (left - 1) d)
-    each_turn h z s a q b ks' p d u = fold_turn (keep_one t x w) l o ks left c e h z ks' (p ∙ rw (b, a)) d u
-
-    pub each_zero : c ≡ 0 → ks ≡ o
-    each_zero z = fold_zero (keep_one t x w) l o ks left c e z
-
-    pub each_out : left ≤ 0 → ks ≡ o
-    each_out h = fold_out (keep_one t x w) l o ks left c e h

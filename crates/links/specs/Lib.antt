@@ -1,2 +1,3 @@
 pub mod Links
+pub mod Siblings
 pub mod Firsts

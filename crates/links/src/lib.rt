@@ -8,6 +8,8 @@
 
 mod firsts;
 mod links;
+mod siblings;
 
-pub use firsts::first_children;
-pub use links::{attribute, first_child, first_of, link, next_of};
+pub use firsts::{attribute, first_child, first_children};
+pub use links::link;
+pub use siblings::{Siblings, attributes, children, first_of, next_of};

@@ -12,16 +12,6 @@ use Rattle.names.specs.Path.{path_number, paths}
 use Rattle.names.specs.Term.{term_number, terms}
 use Rattle.names.specs.Parent.{parent_number, parents}
 
--- a number, at the case that was met
-pub message_case : {a x : Message} {n : ℕ} → a ≡ x → n ≡ message_number x → n ≡ message_number a
-message_case e h = rw e h
-
-pub path_case : {a x : Path} {n : ℕ} → a ≡ x → n ≡ path_number x → n ≡ path_number a
-path_case e h = rw e h
-
-pub term_case : {a x : Term} {n : ℕ} → a ≡ x → n ≡ term_number x → n ≡ term_number a
-term_case e h = rw e h
-
 -- the term of what was found, none where nothing was
 abbrev pub or_none : Option Term → Term
 or_none none = Term.None

@@ -1,12 +1,17 @@
 -- Laws of `put`. Only those that name a room ask for any.
 use mathlib.Core.Path.{◌≡◌, refl, sym, ap, ◌∙◌}
 use mathlib.Core.List.{List, [], ◌∷◌, ◌++◌}
-use Prim.Native.Nat.{ℕ, zero, suc, ◌+◌, ◌-◌, ◌≤◌, ◌<◌}
+use mathlib.Core.Logic.{⊎_elim}
+use Prim.Native.Nat.{ℕ, zero, suc, ◌+◌, ◌-◌, ◌≤◌, ◌<◌, min}
 use native.Mathlib.Nat.{add-zero, add-suc, suc-add}
 use native.Mathlib.Numerals.{add-one}
 use native.Mathlib.Omega.{arith}
-use lib.ListN.{length, get_or, take, drop, set, length-set}
-use lib.Seq.{length-sets, sets-eq, take-suc, length-take-le, take_all, set_comm, set-set, set_out, get_or-set_same, get_or-set_other}
+use lib.ListN.{length, get_or, take, drop, set, length-set, take-append-drop, drop_of_length-le}
+use lib.Seq.{paste, length-sets, sets-eq, take-suc, length-take-le, take_all, set_comm, set-set, set_out, get_or-set_same, get_or-set_other}
+use borrow.Rule.Slice.PartMut.{put_mid}
+use Rattle.std.proofs.lemmas.Bool.{cases_lt}
+use Rattle.std.proofs.lemmas.List.{take-take}
+use Rattle.std.proofs.lemmas.Slice.{put_mid-paste}
 use Rattle.names.specs.Put.{put}
 
 module _ {A : Type 0} where
@@ -91,3 +96,35 @@ module _ {A : Type 0} (l : List A) (at i : ℕ) (v : A) where
 
   pub set_past : at < length l → length l - at ≤ i → l ≡ set l (at + i) v
   set_past h k = sym (set_out l (at + i) v (omega arith))
+
+-- what goes beyond the list is not put
+module _ {A : Type 0} where
+  pub put_outside : (vs l : List A) (at : ℕ) → length l ≤ at → put l at vs ≡ l
+  put_outside [] l at h = put_none l at
+  put_outside (v ∷ vs) l at h = put_first l at v vs ∙ rw (set_out l at v h) (put_outside vs l (suc at) (omega arith))
+
+  -- at a place in the list, what is put are the elements for which there is room
+  module _ (l : List A) (at : ℕ) (vs : List A) {n : ℕ} (h : at ≤ length l) (e : n ≡ min (length vs) (length l - at)) where
+    pub put_some : put l at (take n vs) ≡ put l at vs
+    put_some = sym (ap (put l at) (sym (take-append-drop n vs)) ∙ sym (put_put (take n vs) l (drop n vs) at) ∙ rw (length-take-le n vs (omega arith)) (⊎_elim more all (cases_lt n (length vs))))
+      where
+        more : n < length vs → put (put l at (take n vs)) (at + n) (drop n vs) ≡ put l at (take n vs)
+        more f = put_outside (drop n vs) (put l at (take n vs)) (at + n) (rw length_put (omega arith))
+
+        all : length vs ≤ n → put (put l at (take n vs)) (at + n) (drop n vs) ≡ put l at (take n vs)
+        all f = rw (drop_of_length-le vs f) (put_none (put l at (take n vs)) (at + n))
+
+    pasted : paste l at (take n vs) n ≡ put l at (take n vs)
+    pasted =
+        let m = length-take-le n vs (omega arith) in
+        rw (take-take n n vs (omega arith), put_eq l at (take n vs) (omega arith), m)
+
+  pub put_fitting : (l : List A) (at : ℕ) (vs : List A) {f n : ℕ} {ws : List A} → f ≡ min at (length l) → n ≡ min (length vs) (length l - f) → ws ≡ take n vs → put_mid f (f + n - f) l ws ≡ put l at vs
+  put_fitting l at vs {f} {n} {ws} e g w =
+      put_mid-paste f (f + n - f) l ws (take n vs) n w (omega arith) (sym (length-take-le n vs (omega arith))) ∙ pasted l f vs (omega arith) g ∙ put_some l f vs (omega arith) g ∙ ⊎_elim outside inside (cases_lt (length l) at)
+    where
+      outside : length l < at → put l f vs ≡ put l at vs
+      outside h = put_outside vs l f (omega arith) ∙ sym (put_outside vs l at (omega arith))
+
+      inside : at ≤ length l → put l f vs ≡ put l at vs
+      inside h = ap (λ (i : ℕ). put l i vs) (omega arith)

@@ -4,34 +4,34 @@ ghost use Rattle.names.specs.Message.{message_number};
 
 // What an entry says, in the order of document 01. Kind, rule and hint follow from it
 // (docs/MESSAGES.md).
-#[derive(Clone, Copy)]
+#[derive(Clone, Copy, Debug, PartialEq, Eq)]
 pub enum Message {
-    UnlistedCurrency,
-    OtherCurrency,
-    AmountMalformed,
-    TooManyDecimals,
-    AmountOutOfRange,
-    NotADecimal,
-    TooManyDigits,
-    NotVat,
-    Missing,
-    OtherDateElement,
-    DateFormat,
-    NotCcyymmdd,
-    NoSuchDay,
-    SecondVatPointCode,
-    UnknownVatPointCode,
-    TaxTotalUnreadable,
-    TaxTotalCurrency,
-    IndicatorMalformed,
-    IndicatorAbsent,
-    LogisticsCharge,
-    CardBesideOther,
-    DebitedAccountBesideOther,
-    AccountBesideOther,
-    ProviderWithoutAccount,
-    MandateBesideOther,
-    CreditorBesideOther,
+    UnlistedCurrency = 1,
+    OtherCurrency = 2,
+    AmountMalformed = 3,
+    TooManyDecimals = 4,
+    AmountOutOfRange = 5,
+    NotADecimal = 6,
+    TooManyDigits = 7,
+    NotVat = 8,
+    Missing = 9,
+    OtherDateElement = 10,
+    DateFormat = 11,
+    NotCcyymmdd = 12,
+    NoSuchDay = 13,
+    SecondVatPointCode = 14,
+    UnknownVatPointCode = 15,
+    TaxTotalUnreadable = 16,
+    TaxTotalCurrency = 17,
+    IndicatorMalformed = 18,
+    IndicatorAbsent = 19,
+    LogisticsCharge = 20,
+    CardBesideOther = 21,
+    DebitedAccountBesideOther = 22,
+    AccountBesideOther = 23,
+    ProviderWithoutAccount = 24,
+    MandateBesideOther = 25,
+    CreditorBesideOther = 26,
 }
 
 impl Message {
@@ -39,33 +39,6 @@ impl Message {
     pub fn number(self) -> u32
         ensures { result ≡ message_number self }
     {
-        match self {
-            Message::UnlistedCurrency => 1,
-            Message::OtherCurrency => 2,
-            Message::AmountMalformed => 3,
-            Message::TooManyDecimals => 4,
-            Message::AmountOutOfRange => 5,
-            Message::NotADecimal => 6,
-            Message::TooManyDigits => 7,
-            Message::NotVat => 8,
-            Message::Missing => 9,
-            Message::OtherDateElement => 10,
-            Message::DateFormat => 11,
-            Message::NotCcyymmdd => 12,
-            Message::NoSuchDay => 13,
-            Message::SecondVatPointCode => 14,
-            Message::UnknownVatPointCode => 15,
-            Message::TaxTotalUnreadable => 16,
-            Message::TaxTotalCurrency => 17,
-            Message::IndicatorMalformed => 18,
-            Message::IndicatorAbsent => 19,
-            Message::LogisticsCharge => 20,
-            Message::CardBesideOther => 21,
-            Message::DebitedAccountBesideOther => 22,
-            Message::AccountBesideOther => 23,
-            Message::ProviderWithoutAccount => 24,
-            Message::MandateBesideOther => 25,
-            Message::CreditorBesideOther => 26,
-        }
+        self as u32
     }
 }

@@ -3,11 +3,11 @@ ghost use Rattle.std.specs.Prelude.{◌≡◌};
 ghost use Rattle.names.specs.Parent.{parent_number};
 
 // The elements whose children the reader walks.
-#[derive(Clone, Copy)]
+#[derive(Clone, Copy, Debug, PartialEq, Eq)]
 pub enum Parent {
-    Settlement,
-    MonetarySummation,
-    PaymentMeans,
+    Settlement = 1,
+    MonetarySummation = 2,
+    PaymentMeans = 3,
 }
 
 impl Parent {
@@ -15,10 +15,6 @@ impl Parent {
     pub fn number(self) -> u32
         ensures { result ≡ parent_number self }
     {
-        match self {
-            Parent::Settlement => 1,
-            Parent::MonetarySummation => 2,
-            Parent::PaymentMeans => 3,
-        }
+        self as u32
     }
 }

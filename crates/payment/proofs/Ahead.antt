@@ -35,9 +35,10 @@ use Rattle.settlement.specs.Payments.{
   paying,
 }
 use Rattle.payment.specs.Walks.{waits, waiting_rows, paying_of}
-use Rattle.payment.specs.declared.paying.Waiting as CodeWaiting
-use Rattle.payment.specs.declared.paying.Waiting.TheVariants.{Nothing, Account}
 use Rattle.payment.specs.declared.paying.Walk as Code
+use Rattle.std.specs.declared.option.Option as Maybe
+use Rattle.std.specs.Prelude.{None, Some}
+use Rattle.report.specs.declared.held.Transfer as CodeTransfer
 
 module _ (ts : List (Transfer Place)) (es : List (Entry Place)) (us : List (Unmapped Place)) where
   -- the same behind earlier rows, entries and unmapped elements
@@ -90,9 +91,9 @@ module _ (ts : List (Transfer Place)) (es : List (Entry Place)) (us : List (Unma
     creditor_ahead (debit a) s = lost_ahead s
 
     provider_ahead :
-        (o : Option Place) (k : CodeWaiting.Waiting) (s : Paying Place) → provider_of (waits k) (ts ++ waiting_rows k) o (ahead s) ≡ ahead (provider_of (waits k) (waiting_rows k) o s)
-    provider_ahead o Nothing s = no_account_ahead o (ts ++ []) s
-    provider_ahead o (Account t) s = account_ahead o _ s
+        (o : Option Place) (k : Maybe.Option CodeTransfer.Transfer) (s : Paying Place) → provider_of (waits k) (ts ++ waiting_rows k) o (ahead s) ≡ ahead (provider_of (waits k) (waiting_rows k) o s)
+    provider_ahead o None s = no_account_ahead o (ts ++ []) s
+    provider_ahead o (Some t) s = account_ahead o _ s
 
     part_ahead : (q : Part) (w : Code.Walk) → part D q (ahead (paying_of w)) c ≡ ahead (part D q (paying_of w) c)
     unfolding part

@@ -7,7 +7,6 @@ use Prim.Native.Nat.{ℕ}
 use Rattle.text.specs.Utf8.{bytes}
 use Rattle.report.specs.Rows.{Place}
 use Rattle.report.specs.Values.{text_of}
-use Rattle.report.specs.declared.value.Text.{Text}
 use Rattle.report.specs.declared.held.Transfer as CodeTransfer
 use Rattle.settlement.specs.Document.{Doc}
 use Rattle.settlement.specs.Values.{kid_text}
@@ -16,8 +15,9 @@ use Rattle.payment.specs.Walks.{means_of, waits, waiting_rows}
 use Rattle.payment.specs.declared.paying.PaymentCard.{PaymentCard}
 use Rattle.payment.specs.declared.paying.Means as CodeMeans
 use Rattle.payment.specs.declared.paying.Means.TheVariants.{Unset, Card, Debit, Transfers}
-use Rattle.payment.specs.declared.paying.Waiting as CodeWaiting
-use Rattle.payment.specs.declared.paying.Waiting.TheVariants.{Nothing, Account}
+use Rattle.std.specs.declared.option.Option as Maybe
+use Rattle.std.specs.Prelude.{None, Some}
+use Rattle.report.specs.declared.value.Place as CodePlace
 
 module _ (D : Doc ℕ Place) (c : ℕ) (s : Paying Place) where
   module _ {k : CodeMeans.Means} (q : s.payment.means ≡ means_of k) where
@@ -35,20 +35,20 @@ module _ (D : Doc ℕ Place) (c : ℕ) (s : Paying Place) where
     unfolding part creditor
     lost_card e = rw (q, e)
 
-    pub lost_debit : {a : Text} → k ≡ Debit a → lost s ≡ part D creditor_account s c
+    pub lost_debit : {a : Maybe.Option CodePlace.Place} → k ≡ Debit a → lost s ≡ part D creditor_account s c
     unfolding part creditor
     lost_debit e = rw (q, e)
 
-  module _ {k : CodeWaiting.Waiting} (l : s.last ≡ waits k) (r : s.rows ≡ waiting_rows k) {o : Option Place} (p : o ≡ kid_text D 0 c (bytes "BICID")) where
+  module _ {k : Maybe.Option CodeTransfer.Transfer} (l : s.last ≡ waits k) (r : s.rows ≡ waiting_rows k) {o : Option Place} (p : o ≡ kid_text D 0 c (bytes "BICID")) where
     -- a provider with no account before it
-    pub provider_lost : k ≡ Nothing → provider_of false [] o s ≡ part D institution s c
+    pub provider_lost : k ≡ None → provider_of false [] o s ≡ part D institution s c
     unfolding part
     provider_lost e = rw (l, r, e, p)
 
     -- one of the account that waits
     pub provider_given :
         {t : CodeTransfer.Transfer} →
-        k ≡ Account t →
+        k ≡ Some t →
         record { payment = s.payment; last = true; rows = record { account = text_of t.account; name = text_of t.name; provider = o } ∷ []; says = s.says; strays = s.strays } ≡ part D institution s c
     unfolding part provider_of provided
     provider_given e = rw (l, r, e, p)

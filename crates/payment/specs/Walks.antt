@@ -7,9 +7,9 @@ use Rattle.settlement.specs.Payments.{Paying}
 use Rattle.payment.specs.declared.paying.Means as CodeMeans
 use Rattle.payment.specs.declared.paying.Means.TheVariants.{Unset, Card, Debit, Transfers}
 use Rattle.payment.specs.declared.paying.Payment as CodePayment
-use Rattle.payment.specs.declared.paying.Waiting as CodeWaiting
-use Rattle.payment.specs.declared.paying.Waiting.TheVariants.{Nothing, Account}
 use Rattle.payment.specs.declared.paying.Walk as CodeWalk
+use Rattle.std.specs.Prelude.{Option, None, Some}
+use Rattle.report.specs.declared.held.Transfer as CodeTransfer
 
 -- the kind of means
 abbrev pub means_of : CodeMeans.Means → Means Place
@@ -23,14 +23,14 @@ abbrev pub payment_of : CodePayment.Payment → Payment Place
 payment_of p = record { met = p.met; code = text_of p.code; text = text_of p.text; means = means_of p.means }
 
 -- whether an account waits
-abbrev pub waits : CodeWaiting.Waiting → Bool
-waits Nothing = false
-waits (Account t) = true
+abbrev pub waits : Option CodeTransfer.Transfer → Bool
+waits None = false
+waits (Some t) = true
 
 -- its row
-abbrev pub waiting_rows : CodeWaiting.Waiting → List (Transfer Place)
-waiting_rows Nothing = []
-waiting_rows (Account t) = transfer_of t ∷ []
+abbrev pub waiting_rows : Option CodeTransfer.Transfer → List (Transfer Place)
+waiting_rows None = []
+waiting_rows (Some t) = transfer_of t ∷ []
 
 -- a walk as far as it is not in the lists yet
 abbrev pub paying_of : CodeWalk.Walk → Paying Place

@@ -1,113 +1,94 @@
 // BG-17: accounts, and the providers that follow them.
-ghost use Rattle.std.specs.Prelude.{false, List, [], map, ℕ, ℤ};
+ghost use Rattle.std.specs.Prelude.{false, List, [], map, ℕ};
+ghost use Rattle.report.specs.HeldRows.{Holds};
 ghost use Rattle.report.specs.Rows.{transfer};
 ghost use Rattle.report.specs.Values.{text_of};
-ghost use Rattle.report.specs.Encoding.{held_row, rows_of};
-ghost use Rattle.report.specs.Placed.{Placed};
+ghost use Rattle.report.specs.declared.held.HeldRows.{HeldRows};
 ghost use Rattle.settlement.specs.Payments.{creditor_account, institution, joined, lost, provider_of, part};
-ghost use Rattle.element.specs.LinkDoc.{link_doc};
+ghost use Rattle.element.specs.LinkDoc.{doc_of, lent_text};
+ghost use Rattle.unmapped.specs.declared.note.UnmappedRows.{UnmappedRows};
+ghost use Rattle.values.specs.declared.saying.Entries.{Entries};
 ghost use Rattle.payment.specs.Walks.{waiting_rows, paying_of};
 ghost use Rattle.payment.specs.Walked.{Walked};
 
 use crate::card_or_debit::{account_of, leave_out, not_held};
-use crate::paying::{Means, Payment, Waiting, Walk};
+use crate::paying::{Means, Payment, Walk};
+use element::Document;
 use names::{Message, Path};
-use report::{Cursor, Text, Transfer};
+use report::{HeldRows, Place, Transfer};
+use values::Entries;
 
-// Puts the row of the account that waits, if one does, and answers where the next goes.
-pub(crate) fn put_waiting(held: &mut [i64], at: usize, waiting: Waiting) -> usize
-    ensures { Placed held.old at (rows_of held_row (map transfer (waiting_rows waiting))) held.new result }
+// Puts the row of the account that waits, if one does.
+pub(crate) fn put_waiting(held: &mut HeldRows, waiting: Option<Transfer>)
+    ensures { Holds (map transfer (waiting_rows waiting)) held.old held.new }
 {
-    match waiting {
-        Waiting::Nothing => at,
-        Waiting::Account(t) => report::put_transfer(held, at, t),
+    if let Some(t) = waiting {
+        held.hold_transfer(t);
     }
 }
 
 // An account that is held: BT-84, BT-85. The one before it waits no longer.
-fn hold_account(
-    table: &[u32],
-    text: &[u8],
-    links: &[u16],
-    held: &mut [i64],
-    walk: Walk,
-    c: usize,
-) -> Walk
-    ensures { (x : List ℕ) (e u : List ℤ) → Walked (joined (link_doc table.now text.now links.now) c (paying_of walk)) walk result x held.old held.new e e u u }
+fn hold_account(doc: &Document, held: &mut HeldRows, walk: Walk, c: usize) -> Walk
+    ensures { (x : List ℕ) (e : Entries) (u : UnmappedRows) → Walked (joined (doc_of doc.now) c (paying_of walk)) walk result x held.old held.new e e u u }
 {
-    let payment = walk.payment;
-    let waiting = walk.waiting;
     let account = Transfer {
-        account: account_of(table, text, links, c),
-        name: element::kid_text(table, text, links, 0, c, b"AccountName"),
-        provider: Text::Absent,
+        account: account_of(doc, c),
+        name: doc.kid_text(0, c, b"AccountName"),
+        provider: None,
     };
+    put_waiting(held, walk.waiting);
     Walk {
         payment: Payment {
             met: true,
             means: Means::Transfers,
-            ..payment
+            ..walk.payment
         },
-        waiting: Waiting::Account(account),
-        cursor: Cursor {
-            held: put_waiting(held, walk.cursor.held, waiting),
-            ..walk.cursor
-        },
+        waiting: Some(account),
     }
 }
 
 // An account beside a card or a debited account is lost, which is said; the one before it waits no
 // longer.
-fn lose_account(held: &mut [i64], entries: &mut [i64], walk: Walk) -> Walk
-    ensures { (x : List ℕ) (u : List ℤ) → Walked (lost (paying_of walk)) walk result x held.old held.new entries.old entries.new u u }
+fn lose_account(held: &mut HeldRows, entries: &mut Entries, walk: Walk) -> Walk
+    ensures { (x : List ℕ) (u : UnmappedRows) → Walked (lost (paying_of walk)) walk result x held.old held.new entries.old entries.new u u }
 {
-    let waiting = walk.waiting;
-    let path = Path::PaymentMeansCreditorAccount;
+    put_waiting(held, walk.waiting);
+    not_held(
+        entries,
+        Path::PaymentMeansCreditorAccount,
+        Message::AccountBesideOther,
+    );
     Walk {
-        waiting: Waiting::Nothing,
-        cursor: Cursor {
-            held: put_waiting(held, walk.cursor.held, waiting),
-            entries: not_held(
-                entries,
-                walk.cursor.entries,
-                path,
-                Message::AccountBesideOther,
-            ),
-            ..walk.cursor
-        },
+        waiting: None,
         ..walk
     }
 }
 
 // A child PayeePartyCreditorFinancialAccount: further accounts join transfers.
 pub(crate) fn creditor_account(
-    table: &[u32],
-    text: &[u8],
-    links: &[u16],
-    held: &mut [i64],
-    entries: &mut [i64],
+    doc: &Document,
+    held: &mut HeldRows,
+    entries: &mut Entries,
     walk: Walk,
     c: usize,
 ) -> Walk
-    ensures { (u : List ℤ) → Walked (part (link_doc table.now text.now links.now) creditor_account (paying_of walk) c) walk result text.now held.old held.new entries.old entries.new u u }
+    ensures { (u : UnmappedRows) → Walked (part (doc_of doc.now) creditor_account (paying_of walk) c) walk result (lent_text doc.now) held.old held.new entries.old entries.new u u }
 {
-    let payment = walk.payment;
-    let means = payment.means;
-    match means {
-        Means::Unset => hold_account(table, text, links, held, walk, c),
-        Means::Transfers => hold_account(table, text, links, held, walk, c),
+    match walk.payment.means {
+        Means::Unset => hold_account(doc, held, walk, c),
+        Means::Transfers => hold_account(doc, held, walk, c),
         Means::Card(_) => lose_account(held, entries, walk),
         Means::Debit(_) => lose_account(held, entries, walk),
     }
 }
 
 // A provider with no account before it in the same payment means: that is said if it has a BICID.
-fn without_account(entries: &mut [i64], walk: Walk, provider: Text) -> Walk
-    ensures { (x : List ℕ) (h u : List ℤ) → Walked (provider_of false [] (text_of provider) (paying_of walk)) walk result x h h entries.old entries.new u u }
+fn without_account(entries: &mut Entries, walk: Walk, provider: Option<Place>) -> Walk
+    ensures { (x : List ℕ) (h : HeldRows) (u : UnmappedRows) → Walked (provider_of false [] (text_of provider) (paying_of walk)) walk result x h h entries.old entries.new u u }
 {
     match provider {
-        Text::Absent => walk,
-        Text::At(_) => leave_out(
+        None => walk,
+        Some(_) => leave_out(
             entries,
             walk,
             Path::PaymentMeansCreditorInstitution,
@@ -118,22 +99,14 @@ fn without_account(entries: &mut [i64], walk: Walk, provider: Text) -> Walk
 
 // A child PayeeSpecifiedCreditorFinancialInstitution: its BICID (BT-86) goes to the account that
 // waits, even where there is none.
-pub(crate) fn institution(
-    table: &[u32],
-    text: &[u8],
-    links: &[u16],
-    entries: &mut [i64],
-    walk: Walk,
-    c: usize,
-) -> Walk
-    ensures { (h u : List ℤ) → Walked (part (link_doc table.now text.now links.now) institution (paying_of walk) c) walk result text.now h h entries.old entries.new u u }
+pub(crate) fn institution(doc: &Document, entries: &mut Entries, walk: Walk, c: usize) -> Walk
+    ensures { (h : HeldRows) (u : UnmappedRows) → Walked (part (doc_of doc.now) institution (paying_of walk) c) walk result (lent_text doc.now) h h entries.old entries.new u u }
 {
-    let provider = element::kid_text(table, text, links, 0, c, b"BICID");
-    let waiting = walk.waiting;
-    match waiting {
-        Waiting::Nothing => without_account(entries, walk, provider),
-        Waiting::Account(t) => Walk {
-            waiting: Waiting::Account(Transfer { provider, ..t }),
+    let provider = doc.kid_text(0, c, b"BICID");
+    match walk.waiting {
+        None => without_account(entries, walk, provider),
+        Some(t) => Walk {
+            waiting: Some(Transfer { provider, ..t }),
             ..walk
         },
     }

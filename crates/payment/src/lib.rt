@@ -15,4 +15,4 @@ mod paying;
 mod walk;
 
 pub use paying::{Means, Payment, PaymentCard};
-pub use walk::{PaymentSaid, fill_in};
+pub use walk::fill_in;

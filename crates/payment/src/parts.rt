@@ -2,8 +2,10 @@
 ghost use Rattle.std.specs.Prelude.{◌≡◌};
 ghost use Rattle.settlement.specs.Kinds.{meant};
 ghost use Rattle.settlement.specs.Payments.{unknown, parts, part_of};
-ghost use Rattle.element.specs.LinkDoc.{link_doc};
+ghost use Rattle.element.specs.LinkDoc.{doc_of};
 ghost use Rattle.payment.specs.Parts.{part_is};
+
+use element::Document;
 
 // What a child is.
 #[derive(Clone, Copy)]
@@ -17,30 +19,32 @@ pub(crate) enum Part {
     Unknown,
 }
 
+// The names that are mapped.
+const PARTS: [(&[u8], Part); 6] = [
+    (b"TypeCode", Part::TypeCode),
+    (b"Information", Part::Information),
+    (
+        b"ApplicableTradeSettlementFinancialCard",
+        Part::FinancialCard,
+    ),
+    (b"PayerPartyDebtorFinancialAccount", Part::DebtorAccount),
+    (b"PayeePartyCreditorFinancialAccount", Part::CreditorAccount),
+    (
+        b"PayeeSpecifiedCreditorFinancialInstitution",
+        Part::Institution,
+    ),
+];
+
 // What a name stands for.
 fn part_named(name: &[u8]) -> Part
     ensures { part_is result ≡ meant unknown parts name.now }
 {
-    let names = b"\x08TypeCode\
-        \x0bInformation\
-        \x26ApplicableTradeSettlementFinancialCard\
-        \x20PayerPartyDebtorFinancialAccount\
-        \x22PayeePartyCreditorFinancialAccount\
-        \x2aPayeeSpecifiedCreditorFinancialInstitution";
-    match text::place_of(names, name) {
-        0 => Part::TypeCode,
-        1 => Part::Information,
-        2 => Part::FinancialCard,
-        3 => Part::DebtorAccount,
-        4 => Part::CreditorAccount,
-        5 => Part::Institution,
-        _ => Part::Unknown,
-    }
+    text::meaning_of(&PARTS, name).unwrap_or(Part::Unknown)
 }
 
 // What element c is.
-pub(crate) fn part_of(table: &[u32], text: &[u8], links: &[u16], c: usize) -> Part
-    ensures { part_is result ≡ part_of (link_doc table.now text.now links.now) c }
+pub(crate) fn part_of(doc: &Document, c: usize) -> Part
+    ensures { part_is result ≡ part_of (doc_of doc.now) c }
 {
-    part_named(element::shown(text, element::name(table, c)))
+    part_named(doc.shown(doc.name(c)))
 }

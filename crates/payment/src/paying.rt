@@ -1,20 +1,20 @@
 // The payment so far, and the walk over the children of a payment means.
-use report::{Cursor, Text, Transfer};
+use report::{Place, Transfer};
 
 // BG-18: BT-87, BT-88.
 #[derive(Clone, Copy)]
 pub struct PaymentCard {
-    pub number: Text,
-    pub holder: Text,
+    pub number: Option<Place>,
+    pub holder: Option<Place>,
 }
 
 // The kind of means that is held: none yet, a card, a debited account (BT-91), or transfers, whose
-// accounts are rows.
+// accounts are rows. One match tells the four apart, where an Option of three would nest.
 #[derive(Clone, Copy)]
 pub enum Means {
     Unset,
     Card(PaymentCard),
-    Debit(Text),
+    Debit(Option<Place>),
     Transfers,
 }
 
@@ -22,22 +22,14 @@ pub enum Means {
 #[derive(Clone, Copy)]
 pub struct Payment {
     pub met: bool,
-    pub code: Text,
-    pub text: Text,
+    pub code: Option<Place>,
+    pub text: Option<Place>,
     pub means: Means,
 }
 
-// The last account met, if it was held: its row waits for a provider.
-#[derive(Clone, Copy)]
-pub(crate) enum Waiting {
-    Nothing,
-    Account(Transfer),
-}
-
-// The payment so far, the account that waits, and where the next rows go.
+// The payment so far, and the last account met, if it was held: its row waits for a provider.
 #[derive(Clone, Copy)]
 pub(crate) struct Walk {
     pub payment: Payment,
-    pub waiting: Waiting,
-    pub cursor: Cursor,
+    pub waiting: Option<Transfer>,
 }

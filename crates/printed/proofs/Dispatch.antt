@@ -54,14 +54,6 @@ module _ (f : List ℤ → List ℕ) (w : ℕ) (answered : ℤ) (l : List ℤ) (
   row_later : (j : ℕ) → n ≤ j → get_or (map f (rows_in w answered l) ++ rest) j [] ≡ get_or rest (j - n) []
   row_later j h = past (map f (rows_in w answered l)) rest [] j (omega (arith, rows_there)) ∙ ap (λ (i : ℕ). get_or rest (j - i) []) rows_there
 
--- a row that was put, from its start to its end
-back : (s w : ℕ) → s + w - s ≡ w
-back s w = omega arith
-
-pub cut_put :
-    (f : List ℤ → List ℕ) (l : List ℤ) (j w : ℕ) {m o : List ℕ} {r : ℕ} → Placed m 0 (f (take (j * w + w - j * w) (drop (j * w) l))) o r → Placed m 0 (f (take w (drop (j * w) l))) o r
-cut_put f l j w p = placed_as (ap (λ (n : ℕ). f (take n (drop (j * w) l))) (back (j * w) w)) p
-
 -- entries, then unmapped elements
 module _ (x : List ℕ) (a e u : List ℤ) {n : ℕ} (h : n ≡ row_count entry_width (cell a 3) e) (j : ℕ) where
   pub later_entry : {m o : List ℕ} {r : ℕ} → j < n → Placed m 0 (entry_numbers x (take entry_width (drop (j * entry_width) e))) o r → Placed m 0 (get_or (later_lines x a e u) j []) o r

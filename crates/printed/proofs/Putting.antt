@@ -5,11 +5,12 @@ use mathlib.Core.List.{List, [], ◌∷◌, ◌++◌, map, append_assoc, append-
 use mathlib.Core.Option.{Option, none, some}
 use Prim.Native.Nat.{ℕ, zero, suc, ◌+◌, ◌<◌, ◌^◌}
 use native.Mathlib.Omega.{arith}
-use borrow.Author.Tests.{le-ltb}
+use borrow.Author.Tests.{le-leb, eq-eqb, ne_eqb}
 use lib.Dec.{eqb}
 use lib.IntN.{ℤ, pos, negsuc}
-use lib.Signed.{mag, lt_z}
-use lib.ListN.{get_or, drop, get_or-map}
+use lib.Signed.{mag, le_z}
+use lib.ListN.{length, get_or, drop}
+use Rattle.std.proofs.lemmas.List.{get_or-map}
 use mir.Syntax.{w64}
 use mir.Val.{SFits}
 use mir.Facts.{to_z-of_z}
@@ -25,31 +26,25 @@ use Rattle.decimals.specs.Decimal.{decimal, signed, natural}
 use Rattle.decimals.proofs.Putting.{placed_as}
 use Rattle.decimals.proofs.Signs.{held}
 use Rattle.fields.specs.Line.{field, tabbed, line}
-use Rattle.fields.specs.Columns.{column_of, columns_of, cell, text_shown, amount_shown, percent_shown, date_shown, shown, fields}
+use Rattle.fields.specs.Columns.{cell, text_shown, amount_shown, percent_shown, date_shown, shown, fields}
 use Rattle.lines.specs.Labels.{term_shown, unmapped_path, name_shown}
-use Rattle.printed.specs.Numbers.{there, is_natural, is_shown, has_scheme, group, groups, group_numbers, term, terms, term_with, scheme_shown, term_numbers, held_numbers, entry_numbers, unmapped_numbers}
-
--- a test that was turned round
-pub not-true : (b : Bool) → not b ≡ true → b ≡ false
-not-true true e = absurd (true≢false (sym e))
-not-true false e = refl
-
-pub not-false : (b : Bool) → not b ≡ false → b ≡ true
-not-false true e = refl
-not-false false e = absurd (true≢false e)
+use Rattle.printed.specs.Numbers.{is_natural, is_shown, has_scheme, group, groups, group_numbers, term, terms, term_with, scheme_shown, term_numbers, held_numbers, entry_numbers, unmapped_numbers, GroupAt, TermAt}
+use Rattle.printed.specs.declared.group.Group.{Group}
+use Rattle.printed.specs.declared.term.Term.{Term}
+use Rattle.printed.specs.Tables.{group_of, term_of}
 
 -- a word, fields and a line feed
 pub line_put : {l m n o w f : List ℕ} {at i j r : ℕ} → Placed l at w m i → Placed m i f n j → Placed n j (0xA ∷ []) o r → Placed l at (w ++ f ++ 0xA ∷ []) o r
 line_put p q s = placed_then (placed_then p q) s
 
--- a held row, its kind being known
+-- a held row, its columns being known
 pub held_put :
-    (x : List ℕ) (row : List ℤ) {k : ℕ} {cs : List Column} {l m : List ℕ} {r : ℕ} → k ≡ natural (cell row 0) → held_columns k ≡ cs → Placed l 0 (line "held" (fields x cs row)) m r →
+    (x : List ℕ) (row : List ℤ) {k : ℕ} {cs : List Column} {l m : List ℕ} {r : ℕ} → k ≡ natural (cell row 0) → cs ≡ held_columns k → Placed l 0 (line "held" (fields x cs row)) m r →
     Placed l 0 (held_numbers x row) m r
 unfolding held_numbers
-held_put x row e f p = placed_as (ap (λ (cs : List Column). line "held" (fields x cs row)) (sym f ∙ ap held_columns e)) p
+held_put x row e f p = placed_as (ap (λ (cs : List Column). line "held" (fields x cs row)) (f ∙ ap held_columns e)) p
 
-pub kind_other : (k : ℕ) → (k ≡ 1 → ⊥) → (k ≡ 2 → ⊥) → (k ≡ 3 → ⊥) → (k ≡ 4 → ⊥) → (k ≡ 5 → ⊥) → held_columns k ≡ plain ∷ []
+pub kind_other : (k : ℕ) → (k ≡ 1 → ⊥) → (k ≡ 2 → ⊥) → (k ≡ 3 → ⊥) → (k ≡ 4 → ⊥) → (k ≡ 5 → ⊥) → plain ∷ [] ≡ held_columns k
 unfolding held_columns
 kind_other zero a b c d e = refl
 kind_other (suc zero) a b c d e = absurd (a refl)
@@ -100,44 +95,37 @@ unfolding unmapped_numbers line tabbed
 unmapped_put x row a b c = placed_as (simp (append_assoc, append-nil)) (placed_then (placed_then a b) c)
 
 -- a group
-module _ (a : List ℤ) (n p : ℕ) {k w : ℕ} (q : w ≡ p) (e : k ≡ natural (cell a w)) where
-  counted_there : k ≡ natural (cell a p)
-  counted_there = e ∙ ap (λ (i : ℕ). natural (cell a i)) q
-
-  pub group_none : (l : List ℕ) → eqb k 0 ≡ true → Placed l 0 (group_numbers a (group n p)) l 0
+module _ (a : List ℤ) (n p : ℕ) {k : ℕ} (e : k ≡ natural (cell a p)) where
+  pub group_none : (l : List ℕ) → k ≡ 0 → Placed l 0 (group_numbers a (group n p)) l 0
   unfolding group_numbers
-  group_none l h = placed_as (rw (← counted_there, h)) (placed_none l 0)
+  group_none l h = placed_as (rw (← e, eq-eqb k 0 h)) (placed_none l 0)
 
   pub group_put :
-      {l m v o : List ℕ} {i j r : ℕ} → eqb k 0 ≡ false → Placed l 0 (bytes "group" ++ 0x9 ∷ bytes "BG-") m i → Placed m i (decimal n) v j → Placed v j (0xA ∷ []) o r →
+      {l m v o : List ℕ} {i j r : ℕ} → (k ≡ 0 → ⊥) → Placed l 0 (bytes "group" ++ 0x9 ∷ bytes "BG-") m i → Placed m i (decimal n) v j → Placed v j (0xA ∷ []) o r →
       Placed l 0 (group_numbers a (group n p)) o r
   unfolding group_numbers line tabbed
-  group_put h x y z = placed_as (rw (← counted_there, h) (simp (append_assoc, append-nil))) (placed_then (placed_then x y) z)
+  group_put h x y z = placed_as (rw (← e, ne_eqb k 0 h) (simp (append_assoc, append-nil))) (placed_then (placed_then x y) z)
 
 -- whether the numbers of a column show something
 module _ {z : ℤ} (f : SFits w64 z) where
-  pub natural_sign : not (lt_z (held z) (pos 0)) ≡ is_natural z
+  pub natural_sign : le_z (pos 0) (held z) ≡ is_natural z
   natural_sign = rw (to_z-of_z f) (go z)
     where
-      go : (y : ℤ) → not (lt_z y (pos 0)) ≡ is_natural y
-      go (pos n) = ap not (le-ltb n 0 (omega arith))
+      go : (y : ℤ) → le_z (pos 0) y ≡ is_natural y
+      go (pos n) = le-leb 0 n (omega arith)
       go (negsuc n) = refl
 
-  pub amount_sign : {k : ℕ} → k ≡ natural (held z) → not (eqb k 0) ≡ there z
-  amount_sign e = rw (e, to_z-of_z f)
+pub both_true : {p q a b : Bool} → p ≡ a → p ≡ true → q ≡ b → q ≡ (a && b)
+both_true e t f = rw (← e, t, ← f)
 
-module _ {a b : ℤ} (f : SFits w64 a) (g : SFits w64 b) where
-  pub text_both : {p q : Bool} → p ≡ is_natural (held a) → p ≡ true → q ≡ is_natural (held b) → q ≡ (is_natural a && is_natural b)
-  text_both d t e = rw (← to_z-of_z f, ← d, t, e, to_z-of_z g)
+pub first_false : {p a : Bool} (b : Bool) → p ≡ a → p ≡ false → p ≡ (a && b)
+first_false b e t = rw (← e, t)
 
-  pub text_not : {p : Bool} → p ≡ is_natural (held a) → p ≡ false → false ≡ (is_natural a && is_natural b)
-  text_not d t = rw (← to_z-of_z f, ← d, t)
-
--- a column that is known by its letter, and its first two numbers
-pub letter_is :
+-- a column that is known, and its first two numbers
+pub column_is :
     (v : List ℤ) (s : ℤ → ℤ → Bool) {d k : Column} {a b : ℤ} {r : Bool} → d ≡ k → is_shown k v ≡ s (cell v 0) (cell v 1) → mag a < 2 ^ 63 → a ≡ cell v 0 → mag b < 2 ^ 63 → b ≡ cell v 1 →
     r ≡ s (held a) (held b) → r ≡ is_shown d v
-letter_is v s q w f e g h p = p ∙ rw (carried f e, carried g h, q) (sym w)
+column_is v s q w f e g h p = p ∙ rw (carried f e, carried g h, q) (sym w)
 
 shown_is : (x : List ℕ) (c : Column) (v : List ℤ) → is_shown c v ≡ not (is_none (shown x c v))
 unfolding is_shown shown text_shown percent_shown date_shown amount_shown
@@ -225,15 +213,9 @@ module _ (x : List ℕ) (a : List ℤ) (n p : ℕ) (c : Column) {v : List ℤ} {
       ap (λ (y : Option (List ℕ)). term_with n y (scheme_shown x a n p)) (sym (there_is x c a p w e h)))
       (placed_then (placed_then (placed_then q s) t) z)
 
--- groups and terms by the tables of their numbers, columns and places
-pub group_known : (k : ℕ) {n p : ℕ} → n ≡ get_or (map (λ g. g.number) groups) k 0 → p ≡ get_or (map (λ g. g.place) groups) k 0 → group n p ≡ get_or groups k (group 0 0)
-group_known k e f = rw (e, f, get_or-map (λ g. g.number) groups k (group 0 0), get_or-map (λ g. g.place) groups k (group 0 0))
+-- groups and terms by the tables of the code
+pub group_known : (a : List ℤ) (k : ℕ) (d : Group) (gs : List Group) {l m : List ℕ} {r : ℕ} → map group_of gs ≡ groups → k < length gs → Placed l 0 (group_numbers a (group_of (get_or gs k d))) m r → Placed l 0 (group_numbers a (get_or groups k (group 0 0))) m r
+group_known a k d gs e h p = placed_as (ap (group_numbers a) (sym (get_or-map group_of gs k d (group 0 0) h) ∙ ap (λ (l : List GroupAt). get_or l k (group 0 0)) e)) p
 
-pub term_known :
-    (letters : List ℕ) (k : ℕ) {n c p w : ℕ} → columns_of letters ≡ map (λ t. t.column) terms → column_of 0 ≡ plain → n ≡ get_or (map (λ t. t.number) terms) k 0 → c ≡ get_or letters k 0 →
-    p ≡ get_or (map (λ t. t.place) terms) k 0 → w ≡ p → term n (column_of c) w ≡ get_or terms k (term 0 plain 0)
-unfolding columns_of
-term_known letters k {c = c} same other e f g h =
-    let d : column_of c ≡ (get_or terms k (term 0 plain 0)).column =
-    ap column_of f ∙ sym (get_or-map column_of letters k 0) ∙ ap (λ (l : List Column). get_or l k (column_of 0)) same ∙ ap (get_or (map (λ t. t.column) terms) k) other ∙ get_or-map (λ t. t.column) terms k (term 0 plain 0) in
-    rw (d, h, g, e, get_or-map (λ t. t.number) terms k (term 0 plain 0), get_or-map (λ t. t.place) terms k (term 0 plain 0))
+pub term_known : (x : List ℕ) (a : List ℤ) (k : ℕ) (d : Term) (ts : List Term) {l m : List ℕ} {r : ℕ} → map term_of ts ≡ terms → k < length ts → Placed l 0 (term_numbers x a (term_of (get_or ts k d))) m r → Placed l 0 (term_numbers x a (get_or terms k (term 0 plain 0))) m r
+term_known x a k d ts e h p = placed_as (ap (term_numbers x a) (sym (get_or-map term_of ts k d (term 0 plain 0) h) ∙ ap (λ (l : List TermAt). get_or l k (term 0 plain 0)) e)) p

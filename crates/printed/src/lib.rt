@@ -6,7 +6,6 @@
 // what has no room is left out. The crate assumes nothing of its own.
 #![tactic(auto)]
 
-mod byte_table;
 mod count;
 mod group;
 mod line;

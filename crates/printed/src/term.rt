@@ -1,74 +1,80 @@
 // The lines of terms.
-ghost use Rattle.std.specs.Prelude.{◌≡◌, ◌&&◌, [], ◌∷◌, ◌++◌, ◌<◌, get_or};
+ghost use Rattle.std.specs.Prelude.{◌≡◌, [], ◌∷◌, ◌++◌};
 ghost use Rattle.settlement.specs.Document.{maybe};
-ghost use Rattle.report.specs.Columns.{plain};
 ghost use Rattle.report.specs.Placed.{Placed};
 ghost use Rattle.text.specs.Utf8.{bytes};
 ghost use Rattle.decimals.specs.Decimal.{decimal};
 ghost use Rattle.fields.specs.Line.{tabbed};
 ghost use Rattle.fields.specs.Columns.{column_of};
-ghost use Rattle.printed.specs.Numbers.{there, term, terms, is_natural, is_shown, has_scheme, scheme_shown, term_numbers};
+ghost use Rattle.printed.specs.Numbers.{is_natural, is_shown, has_scheme, scheme_shown, term_numbers};
+ghost use Rattle.printed.specs.Tables.{term_of};
 
-use crate::byte_table::{byte_at, wide};
-use decimals::put_bytes;
+use decimals::{natural, put_bytes, put_decimal};
+use fields::Column::{self, Amount, Date, Percent, Plain, Text};
 use fields::{number_at, numbers_from, put_field};
 
-// The terms' numbers, the letters of their columns, and their places in the answer.
-const NUMBERS: [u8; 30] = [
-    5, 6, 7, 8, 9, 19, 20, 59, 60, 61, 73, 74, 81, 82, 83, 87, 88, 89, 90, 91, 106, 107, 108, 109,
-    110, 111, 112, 113, 114, 115,
-];
+// A term: its number, its column, and where it stands in the answer.
+#[derive(Clone, Copy)]
+pub(crate) struct Term(pub u8, pub Column, pub u8);
 
-const COLUMNS: [u8; 30] = *b"ttdddtttttddttttttttnaanaanaan";
-
-const PLACES: [u8; 30] = [
-    5, 7, 9, 10, 11, 12, 14, 17, 19, 23, 28, 29, 31, 33, 35, 38, 40, 45, 47, 43, 49, 50, 52, 54,
-    55, 57, 59, 60, 62, 64,
+// The terms, ascending.
+pub(crate) const TERMS: [Term; 30] = [
+    Term(5, Text, 5),
+    Term(6, Text, 7),
+    Term(7, Date, 9),
+    Term(8, Date, 10),
+    Term(9, Date, 11),
+    Term(19, Text, 12),
+    Term(20, Text, 14),
+    Term(59, Text, 17),
+    Term(60, Text, 19),
+    Term(61, Text, 23),
+    Term(73, Date, 28),
+    Term(74, Date, 29),
+    Term(81, Text, 31),
+    Term(82, Text, 33),
+    Term(83, Text, 35),
+    Term(87, Text, 38),
+    Term(88, Text, 40),
+    Term(89, Text, 45),
+    Term(90, Text, 47),
+    Term(91, Text, 43),
+    Term(106, Plain, 49),
+    Term(107, Amount, 50),
+    Term(108, Amount, 52),
+    Term(109, Plain, 54),
+    Term(110, Amount, 55),
+    Term(111, Amount, 57),
+    Term(112, Plain, 59),
+    Term(113, Amount, 60),
+    Term(114, Amount, 62),
+    Term(115, Plain, 64),
 ];
 
 // Whether a number is not below 0.
 fn is_natural(z: i64) -> bool
     ensures { result ≡ is_natural z }
 {
-    let below = z < 0;
-    !below
+    z >= 0
 }
 
-// Whether a text is there.
-fn is_text(start: i64, length: i64) -> bool
-    ensures { result ≡ (is_natural start && is_natural length) }
-{
-    let started = is_natural(start);
-    if started {
-        return is_natural(length);
-    }
-    false
-}
-
-// Whether an amount is there.
-fn is_amount(present: i64) -> bool
-    ensures { result ≡ there present }
-{
-    let absent = decimals::natural(present) == 0;
-    !absent
-}
-
-// Whether a column of this letter shows something, by a row's numbers from it on.
-fn is_shown(column: u8, cells: &[i64]) -> bool
+// Whether a column shows something, by a row's numbers from it on.
+fn is_shown(column: Column, cells: &[i64]) -> bool
     ensures { result ≡ is_shown (column_of column) cells.now }
 {
     let a = number_at(cells, 0);
     let b = number_at(cells, 1);
     match column {
-        b't' => is_text(a, b),
-        b'a' => is_amount(a),
-        b'p' => is_natural(b),
-        b'd' => is_natural(a),
-        _ => true,
+        Text => is_natural(a) && is_natural(b),
+        Amount => natural(a) != 0,
+        Percent => is_natural(b),
+        Date => is_natural(a),
+        Plain => true,
     }
 }
 
 // Whether a term has a scheme.
+#[tactic(auto, unfolding(crate::specs::Numbers::has_scheme))]
 fn is_identifier(number: u8) -> bool
     ensures { result ≡ has_scheme number }
 {
@@ -77,26 +83,17 @@ fn is_identifier(number: u8) -> bool
 
 // Puts the scheme of an identifier behind its content, if there is one, and answers where the next bytes
 // go.
-fn put_scheme(
-    out: &mut [u8],
-    at: usize,
-    text: &[u8],
-    answer: &[i64],
-    number: u8,
-    place: usize,
-) -> usize
-    requires { place < 256 }
-    ensures { Placed out.old at (tabbed (maybe [] (λ t. t ∷ []) (scheme_shown text.now answer.now number place))) out.new result }
+fn put_scheme(out: &mut [u8], at: usize, text: &[u8], answer: &[i64], term: Term) -> usize
+    ensures { Placed out.old at (tabbed (maybe [] (λ t. t ∷ []) (scheme_shown text.now answer.now term.0 term.2))) out.new result }
 {
-    let identifier = is_identifier(number);
-    if !identifier {
+    if !is_identifier(term.0) {
         return at;
     }
-    let there = is_shown(b't', numbers_from(answer, place + 2));
-    if !there {
+    let place = term.2 as usize + 2;
+    if !is_shown(Text, numbers_from(answer, place)) {
         return at;
     }
-    put_field(out, at, text, b't', answer, place + 2)
+    put_field(out, at, text, Text, answer, place)
 }
 
 // Puts the number of a term, behind the line's word.
@@ -104,37 +101,19 @@ fn put_term_number(out: &mut [u8], number: u8) -> usize
     ensures { Placed out.old 0 (bytes "term" ++ 0x9 ∷ bytes "BT-" ++ decimal number) out.new result }
 {
     let digits = put_bytes(out, 0, b"term\tBT-");
-    decimals::put_decimal(out, digits, number as u64)
+    put_decimal(out, digits, number as u64)
 }
 
 // Puts the line of a term, nothing where it is absent, at the front, and answers where it ends.
-fn put_term_at(
-    out: &mut [u8],
-    text: &[u8],
-    answer: &[i64],
-    number: u8,
-    column: u8,
-    place: usize,
-) -> usize
-    requires { place < 256 }
-    ensures { Placed out.old 0 (term_numbers text.now answer.now (term number (column_of column) place)) out.new result }
+pub(crate) fn put_term(out: &mut [u8], text: &[u8], answer: &[i64], term: Term) -> usize
+    ensures { Placed out.old 0 (term_numbers text.now answer.now (term_of term)) out.new result }
 {
-    let there = is_shown(column, numbers_from(answer, place));
-    if !there {
+    let place = term.2 as usize;
+    if !is_shown(term.1, numbers_from(answer, place)) {
         return 0;
     }
-    let content = put_term_number(out, number);
-    let scheme = put_field(out, content, text, column, answer, place);
-    let end = put_scheme(out, scheme, text, answer, number, place);
+    let content = put_term_number(out, term.0);
+    let scheme = put_field(out, content, text, term.1, answer, place);
+    let end = put_scheme(out, scheme, text, answer, term);
     put_bytes(out, end, b"\n")
-}
-
-// That of term k.
-pub(crate) fn put_term(out: &mut [u8], text: &[u8], answer: &[i64], k: usize) -> usize
-    ensures { Placed out.old 0 (term_numbers text.now answer.now (get_or terms k (term 0 plain 0))) out.new result }
-{
-    let n = byte_at(&NUMBERS, k);
-    let column = byte_at(&COLUMNS, k);
-    let place = byte_at(&PLACES, k);
-    put_term_at(out, text, answer, n, column, wide(place))
 }

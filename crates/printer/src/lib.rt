@@ -6,6 +6,7 @@
 // `write`, through `std`.
 #![tactic(auto)]
 
+use inputs::{Fields, bytes_at};
 use report::{ENTRY_ROOM, HELD_ROOM, UNMAPPED_ROOM};
 use rulzhamm::rulzhamm_read;
 use std::io;
@@ -28,25 +29,21 @@ fn print_lines(
     entries: &[i64; ENTRIES],
     unmapped: &[i64; UNMAPPED],
 ) -> io::Result<()> {
-    let lines = printed::line_count(answer, held, entries, unmapped);
-    let mut k = 0;
-    while k < lines {
+    for k in 0..printed::line_count(answer, held, entries, unmapped) {
         let n = printed::put_line(out, text, answer, held, entries, unmapped, k);
         rt.write_all(text::clip(out, 0, n))?;
-        k += 1;
     }
     Ok(())
 }
 
-// Reads a settlement and prints its reading; a larger table is refused (10).
+// Reads a settlement under what an input line says, by its fields, and prints the reading; a larger table
+// is refused (10).
 pub fn print_reading(
     rt: &impl Print,
     table: &[u32],
     text: &[u8],
-    currency: &[u8],
-    identifier: &[u8],
-    rules: u32,
-    mode: u32,
+    input: &[u8],
+    fields: Fields,
 ) -> io::Result<()> {
     let mut held = [0i64; HELD];
     let mut entries = [0i64; ENTRIES];
@@ -55,10 +52,10 @@ pub fn print_reading(
     rulzhamm_read(
         table,
         text,
-        currency,
-        identifier,
-        rules,
-        mode,
+        bytes_at(input, fields.currency),
+        bytes_at(input, fields.identifier),
+        fields.rules,
+        fields.mode,
         &mut held,
         &mut entries,
         &mut unmapped,

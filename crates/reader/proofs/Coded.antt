@@ -1,4 +1,5 @@
 -- A call for every input: the code's answer whose meaning is the outcome's, and the lists as they are promised.
+use Rattle.text.specs.Options.{option_of}
 use mathlib.Core.Path.{◌≡◌, refl, ap}
 use mathlib.Core.List.{List}
 use mathlib.Core.Option.{Option, none, some}
@@ -7,32 +8,30 @@ use native.Mathlib.Omega.{arith}
 use lib.IntN.{ℤ}
 use Rattle.report.specs.Rows.{Place}
 use Rattle.report.specs.Encoding.{rows_then}
-use Rattle.report.specs.Values.{place_of, text_of, amount_of, day_of}
+use Rattle.report.specs.Values.{place_of, text_of, amount_of}
 use Rattle.report.specs.declared.value.Place as CodePlace
-use Rattle.report.specs.declared.value.Text.{Text}
-use Rattle.report.specs.declared.value.Amount.{Amount}
-use Rattle.report.specs.declared.value.Day.{Day}
 use Rattle.settlement.specs.Shapes.{Identifier, Payee, Means, unset, card, debit, transfers, Period, Totals, Terms}
 use Rattle.settlement.specs.Values.{Lent}
 use Rattle.settlement.specs.Outcome.{outcome}
 use Rattle.settlement.specs.Result.{Result, result_of}
 use Rattle.groups.specs.Groups.{maybe_identifier_of}
-use Rattle.groups.specs.Taxes.{point_code_of}
-use Rattle.groups.specs.declared.shapes.MaybeIdentifier.{MaybeIdentifier}
-use Rattle.groups.specs.declared.shapes.PointCode.{PointCode}
 use Rattle.payment.specs.Walks.{means_of}
 use Rattle.payment.specs.declared.paying.Means as CodeMeans
 use Rattle.payment.specs.declared.paying.Means.TheVariants as Variant
 use Rattle.totals.specs.Reading.{totals_of}
 use Rattle.totals.specs.declared.state.Totals as CodeTotals
 use Rattle.steps.specs.States.{maybe_payee_of, maybe_period_of}
-use Rattle.steps.specs.declared.state.MaybePayee.{MaybePayee}
-use Rattle.steps.specs.declared.state.MaybePeriod.{MaybePeriod}
 use Rattle.terms.specs.Terms.{terms_of}
 use Rattle.terms.specs.declared.terms.Terms as CodeTerms
 use Rattle.reader.specs.Answered.{room_of}
 use Rattle.reader.specs.Calls.{Call, Promised}
 use Rattle.reader.specs.declared.answer.Answer as Code
+use Rattle.std.specs.declared.option.Option as Maybe
+use Rattle.std.specs.Prelude.{None, Some}
+use Rattle.amount.specs.declared.amount.InvoiceAmount.{InvoiceAmount}
+use Rattle.groups.specs.declared.shapes.Identifier as CodeIdentifier
+use Rattle.groups.specs.declared.shapes.Payee as CodePayee
+use Rattle.groups.specs.declared.shapes.Period as CodePeriod
 
 -- the code's value for each value of the definition, and that it means just that
 abbrev place_at : ℕ → ℕ → Place
@@ -45,63 +44,54 @@ place_coded : (p : Place) → place_of (code_place p) ≡ p
 unfolding code_place
 place_coded p = ap (λ (s : ℕ). place_at s p.len) {x = p.start + 0} {y = p.start} (omega arith)
 
-unfoldable pub code_text : Option Place → Text
-code_text none = Text.Absent
-code_text (some p) = Text.At (code_place p)
+unfoldable pub code_text : Option Place → Maybe.Option CodePlace.Place
+code_text none = None
+code_text (some p) = Some (code_place p)
 
 text_coded : (t : Option Place) → text_of (code_text t) ≡ t
 unfolding code_text
 text_coded none = refl
 text_coded (some p) = ap some (place_coded p)
 
-unfoldable pub code_day : Option ℕ → Day
-code_day none = Day.Absent
-code_day (some d) = Day.On d
+unfoldable pub code_day : Option ℕ → Maybe.Option ℕ
+code_day none = None
+code_day (some d) = Some d
 
-day_coded : (d : Option ℕ) → day_of (code_day d) ≡ d
+day_coded : (d : Option ℕ) → option_of (code_day d) ≡ d
 unfolding code_day
 day_coded none = refl
 day_coded (some d) = refl
 
-unfoldable pub code_point : Option ℕ → PointCode
-code_point none = PointCode.Absent
-code_point (some n) = PointCode.Of n
-
-point_coded : (n : Option ℕ) → point_code_of (code_point n) ≡ n
-unfolding code_point
-point_coded none = refl
-point_coded (some n) = refl
-
-unfoldable pub code_amount : Option ℤ → Amount
-code_amount none = Amount.Absent
-code_amount (some a) = Amount.Of (record { 0 = a })
+unfoldable pub code_amount : Option ℤ → Maybe.Option InvoiceAmount
+code_amount none = None
+code_amount (some a) = Some (record { 0 = a })
 
 amount_coded : (a : Option ℤ) → amount_of (code_amount a) ≡ a
 unfolding code_amount
 amount_coded none = refl
 amount_coded (some a) = refl
 
-unfoldable pub code_identifier : Option (Identifier Place) → MaybeIdentifier
-code_identifier none = MaybeIdentifier.Absent
-code_identifier (some i) = MaybeIdentifier.Of (record { content = code_place i.content; scheme = code_text i.scheme })
+unfoldable pub code_identifier : Option (Identifier Place) → Maybe.Option CodeIdentifier.Identifier
+code_identifier none = None
+code_identifier (some i) = Some (record { content = code_place i.content; scheme = code_text i.scheme })
 
 identifier_coded : (i : Option (Identifier Place)) → maybe_identifier_of (code_identifier i) ≡ i
 unfolding code_identifier
 identifier_coded none = refl
 identifier_coded (some i) = rw (place_coded i.content, text_coded i.scheme)
 
-unfoldable pub code_payee : Option (Payee Place) → MaybePayee
-code_payee none = MaybePayee.Absent
-code_payee (some p) = MaybePayee.Of (record { name = code_text p.name; identifier = code_identifier p.identifier; legal = code_identifier p.legal })
+unfoldable pub code_payee : Option (Payee Place) → Maybe.Option CodePayee.Payee
+code_payee none = None
+code_payee (some p) = Some (record { name = code_text p.name; identifier = code_identifier p.identifier; legal = code_identifier p.legal })
 
 payee_coded : (p : Option (Payee Place)) → maybe_payee_of (code_payee p) ≡ p
 unfolding code_payee
 payee_coded none = refl
 payee_coded (some p) = rw (text_coded p.name, identifier_coded p.identifier, identifier_coded p.legal)
 
-unfoldable pub code_period : Option Period → MaybePeriod
-code_period none = MaybePeriod.Absent
-code_period (some p) = MaybePeriod.Of (record { start = code_day p.start; end = code_day p.end })
+unfoldable pub code_period : Option Period → Maybe.Option CodePeriod.Period
+code_period none = None
+code_period (some p) = Some (record { start = code_day p.start; end = code_day p.end })
 
 period_coded : (p : Option Period) → maybe_period_of (code_period p) ≡ p
 unfolding code_period
@@ -141,7 +131,7 @@ code_terms t =
       bt5 = code_text t.bt5;
       bt6 = code_text t.bt6;
       bt7 = code_day t.bt7;
-      bt8 = code_point t.bt8;
+      bt8 = code_day t.bt8;
       bt9 = code_day t.bt9;
       bt19 = code_text t.bt19;
       bt20 = code_text t.bt20;
@@ -159,7 +149,7 @@ code_terms t =
 
 terms_coded : (t : Terms Place) → terms_of (code_terms t) ≡ t
 unfolding code_terms
-terms_coded t = simp (text_coded, day_coded, point_coded, payee_coded, period_coded, means_coded, totals_coded)
+terms_coded t = simp (text_coded, day_coded, payee_coded, period_coded, means_coded, totals_coded)
 
 -- what the code answers for a result
 abbrev code_answer : Result → Code.Answer

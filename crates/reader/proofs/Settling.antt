@@ -31,7 +31,6 @@ use Rattle.settlement.specs.Values.{Lent}
 use Rattle.settlement.proofs.Room.{reading_fits, strays_fit}
 use Rattle.element.specs.LinkDoc.{link_doc}
 use Rattle.element.proofs.Documents.{linked_doc}
-use Rattle.values.specs.Told.{Said}
 use Rattle.values.proofs.Telling.{said_then}
 use Rattle.unmapped.specs.Listed.{Listed}
 use Rattle.unmapped.proofs.Notes.{listed_none, noted_all, table_order}
@@ -40,18 +39,21 @@ use Rattle.children.specs.Walks.{countable, Read}
 use Rattle.steps.specs.declared.state.State as State
 use Rattle.terms.specs.Terms.{terms_of}
 use Rattle.reader.specs.Answers.{Refused}
-use Rattle.reader.specs.Answered.{room_of, Answered}
+use Rattle.reader.specs.Answered.{room_of, Answered, AnsweredRows}
 use Rattle.terms.specs.Endings.{Ended}
 use Rattle.reader.specs.Spelled.{Spelled}
 use Rattle.reader.specs.declared.answer.Answer as Code
-use Rattle.terms.specs.declared.finishing.Finished as Finished
+use Rattle.terms.specs.declared.terms.Terms as Terms
+use Rattle.report.specs.declared.held.HeldRows.{HeldRows}
+use Rattle.values.specs.declared.saying.Entries.{Entries}
+use Rattle.unmapped.specs.declared.note.UnmappedRows.{UnmappedRows}
 
 -- numbers that were put at the front of a list with room for them
 put_front : (l vs : List ℤ) {l' : List ℤ} → l' ≡ put l 0 vs → length vs ≤ length l → l' ≡ rows_then vs l
 put_front l vs e h = e ∙ put_eq l 0 vs (omega arith) ∙ ap (λ (n : ℕ). vs ++ drop n l) {x = 0 + length vs} {y = length vs} (omega arith)
 
 -- what was read by another document that is the same
-read-as : {L : Lent} {D D' : Doc ℕ Place} {x cs cs' : List ℕ} {s : State.State} {h h' e e' u u' : List ℤ} → D ≡ D' → cs ≡ cs' → Read L D x cs s h h' e e' u u' → Read L D' x cs' s h h' e e' u u'
+read-as : {L : Lent} {D D' : Doc ℕ Place} {x cs cs' : List ℕ} {s : State.State} {h h' : HeldRows} {e e' : Entries} {u u' : UnmappedRows} → D ≡ D' → cs ≡ cs' → Read L D x cs s h h' e e' u u' → Read L D' x cs' s h h' e e' u u'
 read-as p q r = rw (p, q) at r
 
 -- the links of a table made in an array of zeros, at most 12,288, with room for every record: they spell its own document
@@ -69,55 +71,59 @@ unfolding table_doc
 own_children t x l s = rw (le-leb (length l) 12288 s.few) (ap (λ (D : Doc ℕ Place). D.kids 0) s.document)
 
 module _
-    (L : Lent) (t x : List ℕ) {h h' e e₁ e' u u' : List ℤ} {s : State.State} {f : Finished.Finished}
-    (accepted : refusal t x ≡ none) (room : cramped (room_of h e u) t ≡ false)
+    (L : Lent) (t x : List ℕ) {h h' : HeldRows} {e e₁ e' : Entries} {u u' : UnmappedRows} {s : State.State} {f : Terms.Terms}
+    (accepted : refusal t x ≡ none) (room : cramped (room_of h.list.now e.list.now u.list.now) t ≡ false)
     (l : List ℕ) (spelled : Spelled t x l)
+    (first : (h.at ≡ 0) × (e.at ≡ 0) × (u.count ≡ 0))
     (walked : Read L (link_doc t x l) x (countable l ((link_doc t x l).kids 0)) s h h' e e₁ u u')
-    (ended : Ended (reading.terms_of (state_of s)) (reading.late_of L.rules (state_of s)) e₁ s.cursor.entries f e') where
+    (ended : Ended (reading.terms_of (state_of s)) (reading.late_of L.rules (state_of s)) e₁ f e') where
   abbrev whole : Reading Place
   whole = reading.reading L (table_doc t x) 0
 
   all_read : Read L (table_doc t x) x (kids t 0) s h h' e e₁ u u'
   all_read = read-as spelled.document (own_children t x l spelled) walked
 
-  fits : Fits (room_of h e u) whole
-  fits = reading_fits L (room_of h e u) t x accepted room
+  fits : Fits (room_of h.list.now e.list.now u.list.now) whole
+  fits = reading_fits L (room_of h.list.now e.list.now u.list.now) t x accepted room
 
-  terms_read : terms_of f.terms ≡ whole.terms
+  terms_read : terms_of f ≡ whole.terms
   unfolding reading.reading reading.reading_of table_doc
   terms_read = ended.terms ∙ ap reading.terms_of all_read.state
 
-  held_read : Placed h 0 (rows_of held_row whole.held) h' s.cursor.held
+  held_read : Placed h.list.now 0 (rows_of held_row whole.held) h'.list.now h'.at
   unfolding reading.reading reading.reading_of table_doc
-  held_read = all_read.held
+  held_read = rw first.0 at all_read.held.rows
 
-  entries_read : Said whole.entries e 0 e' f.at
+  entries_read : Placed e.list.now 0 (rows_of entry_row whole.entries) e'.list.now e'.at
   unfolding reading.reading reading.reading_of table_doc
-  entries_read = said_then all_read.said (rw all_read.state at ended.said)
+  entries_read = rw first.1 at (said_then all_read.said (rw all_read.state at ended.said)).rows
 
-  unmapped_read : Listed x u whole.unmapped u' s.cursor.unmapped
+  unmapped_read : Listed x u.list.now whole.unmapped u'.list.now u'.count
   unfolding reading.reading reading.reading_of table_doc
-  unmapped_read = rw (table_order t x) (noted_all _ (listed_none x u) (omega (arith, strays_fit L (room_of h e u) t x accepted room)) all_read.noted)
+  unmapped_read = rw (table_order t x) (noted_all _ (listed_none x u.list.now) (omega (arith, strays_fit L (room_of h.list.now e.list.now u.list.now) t x accepted room)) (rw first.2 at all_read.noted.rows))
 
-  pub answered : Answered (read whole) (record { refusal = 0; place = 0; held = s.cursor.held / held_width; entries = f.at / entry_width; unmapped = s.cursor.unmapped; terms = f.terms }) h h' e e' u u'
+  pub answered : Answered (read whole) (record { refusal = 0; place = 0; held = h'.at / held_width; entries = e'.at / entry_width; unmapped = u'.count; terms = f }) h.list.now h'.list.now e.list.now e'.list.now u.list.now u'.list.now
   unfolding result_of
   answered =
       let a = rows_length held_row held_width held-width whole.held in
       let b = rows_length entry_row entry_width entry-width whole.entries in
       let c = rows_length unmapped_row unmapped_width unmapped-width whole.unmapped in
-      let held-room : length (rows_of held_row whole.held) ≤ length h = omega (arith, a, fits.held) in
-      let entry-room : length (rows_of entry_row whole.entries) ≤ length e = omega (arith, b, fits.entries) in
+      let held-room : length (rows_of held_row whole.held) ≤ length h.list.now = omega (arith, a, fits.held) in
+      let entry-room : length (rows_of entry_row whole.entries) ≤ length e.list.now = omega (arith, b, fits.entries) in
       record {
         refusal = refl;
         place = refl;
         terms = terms_read;
         held_count = omega (arith, a, placed_room held_read (omega (arith, held-room)));
-        entry_count = omega (arith, b, placed_room entries_read.rows (omega (arith, entry-room)));
+        entry_count = omega (arith, b, placed_room entries_read (omega (arith, entry-room)));
         unmapped_count = unmapped_read.count;
-        held_rows = put_front h _ held_read.now held-room;
-        entry_rows = put_front e _ entries_read.rows.now entry-room;
-        unmapped_rows = put_front u _ unmapped_read.rows (omega (arith, c, unmapped_read.room));
+        held_rows = put_front h.list.now _ held_read.now held-room;
+        entry_rows = put_front e.list.now _ entries_read.now entry-room;
+        unmapped_rows = put_front u.list.now _ unmapped_read.rows (omega (arith, c, unmapped_read.room));
       }
+
+  pub answered_rows : AnsweredRows (read whole) (record { refusal = 0; place = 0; held = h'.at / held_width; entries = e'.at / entry_width; unmapped = u'.count; terms = f }) h h' e e' u u'
+  answered_rows = record { held = walked.held.same; entries = ended.said.same ∙ walked.said.same; unmapped = walked.noted.same; answered = answered }
 
 -- a refusal has no rows
 pub refused_answered : {n j : ℕ} {r : Code.Answer} → Refused n j r → (h e u : List ℤ) → Answered (refused n j) r h h e e u u

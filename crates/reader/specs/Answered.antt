@@ -1,8 +1,15 @@
 -- What a call of the reader did, against what it is defined to answer (document 01, "Rows" and "Where each refusal is checked").
-use Rattle.std.specs.Prelude.{◌≡◌, Bool, List, ℕ, ℤ, length}
+use Rattle.std.specs.Prelude.{◌≡◌, Bool, false, List, ℕ, ℤ, length}
 use Rattle.report.specs.Encoding.{rows_then}
 use Rattle.settlement.specs.Values.{Lent}
-use Rattle.settlement.specs.Outcome.{Room, Outcome}
+use Rattle.std.proofs.Math.Option.{none}
+use Rattle.refusals.specs.Refusals.{refusal}
+use Rattle.report.specs.declared.held.HeldRows.{HeldRows}
+use Rattle.settlement.specs.Outcome.{Room, Outcome, cramped}
+use Rattle.element.specs.declared.document.Document.{Document}
+use Rattle.values.specs.declared.saying.Entries.{Entries}
+use Rattle.unmapped.specs.declared.note.UnmappedRows.{UnmappedRows}
+use Rattle.reader.specs.Spelled.{Spelled}
 use Rattle.settlement.specs.Result.{result_of}
 use Rattle.terms.specs.Terms.{terms_of}
 use Rattle.reader.specs.declared.answer.Answer as Code
@@ -26,3 +33,17 @@ pub record Answered (o : Outcome) (r : Code.Answer) (held held' entries entries'
   pub held_rows : held' ≡ rows_then (result_of o).held held
   pub entry_rows : entries' ≡ rows_then (result_of o).entries entries
   pub unmapped_rows : unmapped' ≡ rows_then (result_of o).unmapped unmapped
+
+-- an accepted table, its links, and rows with room from their fronts on
+pub record Readable (d : Document) (h : HeldRows) (e : Entries) (u : UnmappedRows) : Type 0 where
+  pub accepted : refusal d.table.now d.text.now ≡ none
+  pub room : cramped (room_of h.list.now e.list.now u.list.now) d.table.now ≡ false
+  pub spelled : Spelled d.table.now d.text.now d.links.now
+  pub first : (h.at ≡ 0) × (e.at ≡ 0) × (u.count ≡ 0)
+
+-- the same, of rows that are the same lent lists
+pub record AnsweredRows (o : Outcome) (r : Code.Answer) (h h' : HeldRows) (e e' : Entries) (u u' : UnmappedRows) : Type 0 where
+  pub held : h'.list.ghost_name ≡ h.list.ghost_name
+  pub entries : e'.list.ghost_name ≡ e.list.ghost_name
+  pub unmapped : u'.list.ghost_name ≡ u.list.ghost_name
+  pub answered : Answered o r h.list.now h'.list.now e.list.now e'.list.now u.list.now u'.list.now

@@ -1,6 +1,8 @@
 // What a call answers: the terms of a reading, or a refusal with blank terms.
+ghost use Rattle.refusals.specs.Reasons.{number};
 ghost use Rattle.reader.specs.Answers.{Refused};
 
+use refusals::Refusal;
 use terms::Terms;
 
 // The refusal (0: read) and its record, how many held rows, entries and unmapped rows there are, and
@@ -15,13 +17,13 @@ pub struct Answer {
     pub terms: Terms,
 }
 
-// A refusal, by its number and record.
-pub(crate) fn refused(refusal: u32, place: usize) -> Answer
-    ensures { Refused refusal place result }
+// A refusal.
+pub(crate) fn refused(refusal: Refusal) -> Answer
+    ensures { Refused (number refusal.reason) refusal.record result }
 {
     Answer {
-        refusal,
-        place,
+        refusal: refusal.reason.number(),
+        place: refusal.record,
         held: 0,
         entries: 0,
         unmapped: 0,

@@ -8,13 +8,15 @@ ghost use Rattle.settlement.specs.Outcome.{read, cramped, unless, outcome};
 ghost use Rattle.settlement.specs.Settlement.{reading};
 ghost use Rattle.settlement.specs.TableDoc.{table_doc};
 ghost use Rattle.values.specs.Sites.{lent_of};
-ghost use Rattle.reader.specs.Answered.{lent_with, room_of, Answered};
+ghost use Rattle.reader.specs.Answered.{lent_with, room_of, Answered, Readable, AnsweredRows};
 ghost use Rattle.reader.specs.Spelled.{Spelled};
 
 use crate::answer::{Answer, refused};
-use refusals::Verdict;
-use report::{ENTRY_ROOM, ENTRY_WIDTH, HELD_ROOM, HELD_WIDTH, UNMAPPED_ROOM};
-use values::Lent;
+use element::Document;
+use refusals::{Reason, Refusal};
+use report::{ENTRY_ROOM, ENTRY_WIDTH, HELD_ROOM, HELD_WIDTH, HeldRows, UNMAPPED_ROOM};
+use unmapped::UnmappedRows;
+use values::{Entries, Lent};
 
 // Whether lists of these lengths have less room than n records ask for: a held row, four entries and
 // an unmapped row for each.
@@ -33,7 +35,32 @@ fn is_cramped(n: usize, held: usize, entries: usize, unmapped: usize) -> bool
     false
 }
 
-// Reads the settlement of an accepted table into lists with room, by links that spell its document.
+// Reads the settlement of an accepted table, by links that spell its document, into rows with room from
+// their fronts on.
+fn read_rows(
+    doc: &Document,
+    lent: Lent,
+    currency: &[u8],
+    held: &mut HeldRows,
+    entries: &mut Entries,
+    unmapped: &mut UnmappedRows,
+) -> Answer
+    requires { Readable doc.now held.old entries.old unmapped.old }
+    ensures { AnsweredRows (read (reading (lent_of lent currency.now) (table_doc doc.now.table.now doc.now.text.now) 0)) result held.old held.new entries.old entries.new unmapped.old unmapped.new }
+{
+    let s = children::settlement(doc, lent, currency, held, entries, unmapped);
+    let terms = terms::finish(entries, lent.rules, s);
+    Answer {
+        refusal: 0,
+        place: 0,
+        held: held.at / HELD_WIDTH,
+        entries: entries.at / ENTRY_WIDTH,
+        unmapped: unmapped.count,
+        terms,
+    }
+}
+
+// The same into lists with room.
 fn read_linked(
     table: &[u32],
     text: &[u8],
@@ -47,18 +74,17 @@ fn read_linked(
     requires { (refusal table.now text.now ≡ none) × (cramped (room_of held.old entries.old unmapped.old) table.now ≡ false) × Spelled table.now text.now links.now }
     ensures { Answered (read (reading (lent_of lent currency.now) (table_doc table.now text.now) 0)) result held.old held.new entries.old entries.new unmapped.old unmapped.new }
 {
-    let s = children::settlement(table, text, links, lent, currency, held, entries, unmapped);
-    let end = terms::finish(entries, lent.rules, s);
-    let terms = end.terms;
-    let cursor = s.cursor;
-    Answer {
-        refusal: 0,
-        place: 0,
-        held: cursor.held / HELD_WIDTH,
-        entries: end.at / ENTRY_WIDTH,
-        unmapped: cursor.unmapped,
-        terms,
-    }
+    let doc = Document::new(table, text, links);
+    let mut held = HeldRows { list: held, at: 0 };
+    let mut entries = Entries {
+        list: entries,
+        at: 0,
+    };
+    let mut unmapped = UnmappedRows {
+        list: unmapped,
+        count: 0,
+    };
+    read_rows(&doc, lent, currency, &mut held, &mut entries, &mut unmapped)
 }
 
 // Links an accepted table in an array of zeros and reads its settlement into lists with room. Most
@@ -102,7 +128,10 @@ fn read_accepted(
     ensures { Answered (unless (refuse 10 (at_root (cramped (room_of held.old entries.old unmapped.old) table.now)) none) (reading (lent_with mode rules currency.now (conformant identifier.now)) (table_doc table.now text.now) 0)) result held.old held.new entries.old entries.new unmapped.old unmapped.new }
 {
     if is_cramped(table.len() / 6, held.len(), entries.len(), unmapped.len()) {
-        return refused(10, 0);
+        return refused(Refusal {
+            reason: Reason::Cramped,
+            record: 0,
+        });
     }
     let lent = Lent {
         mode,
@@ -127,16 +156,21 @@ pub fn read(
 ) -> Answer
     ensures { Answered (outcome (lent_with mode rules currency.now (conformant identifier.now)) (room_of held.old entries.old unmapped.old) table.now text.now) result held.old held.new entries.old entries.new unmapped.old unmapped.new }
 {
-    if 1 < mode {
-        return refused(1, 0);
+    if mode > 1 {
+        return refused(Refusal {
+            reason: Reason::Mode,
+            record: 0,
+        });
     }
-    if 4095 < rules {
-        return refused(2, 0);
+    if rules > 4095 {
+        return refused(Refusal {
+            reason: Reason::Rules,
+            record: 0,
+        });
     }
-    let verdict = refusals::check(table, text);
-    match verdict {
-        Verdict::Refused(number, record) => refused(number, record),
-        Verdict::Accepted => read_accepted(
+    match refusals::check(table, text) {
+        Err(refusal) => refused(refusal),
+        Ok(()) => read_accepted(
             table, text, currency, identifier, rules, mode, held, entries, unmapped,
         ),
     }

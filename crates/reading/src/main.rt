@@ -8,39 +8,34 @@
 // `write`, through `std`.
 #![tactic(auto)]
 
-ghost use Rattle.std.specs.Prelude.{◌≡◌, length};
+ghost use Rattle.std.specs.Prelude.{◌≡◌, ◌≤◌, IfOk, length};
 
-use inputs::{Fields, Line, bytes_at, input_of, numbers_of};
+use inputs::{Fields, input_of, numbers_of};
 use std::io::Read;
 use std::rt::Files;
 use std::{fs, io};
 
-// What was read of a file: so many bytes, or nothing where it cannot be read.
-#[derive(Clone, Copy)]
-enum Contents {
-    Bytes(usize),
-    Unreadable,
-}
-
-// Reads an open file as far as buf has room.
-fn contents_of<R: Read>(reader: &mut R, buf: &mut [u8]) -> Contents {
+// Reads until buf is full or the input ends, and answers how many bytes it put at the front of buf. The
+// library's `read_to_end` needs the heap, of which this program takes none.
+fn read_full<R: Read>(reader: &mut R, buf: &mut [u8]) -> io::Result<usize>
+    ensures { IfOk result (λ n. n ≤ length buf.new) }
+{
     let mut done = 0;
     while done < buf.len() {
-        match reader.read(&mut buf[done..]) {
-            Ok(0) => break,
-            Ok(n) => done += n,
-            Err(_) => return Contents::Unreadable,
+        let n = reader.read(&mut buf[done..])?;
+        if n == 0 {
+            break;
         }
+        done += n;
     }
-    Contents::Bytes(done)
+    Ok(done)
 }
 
 // Reads a file by its name.
-fn file_contents(rt: &impl Files, name: &str, buf: &mut [u8]) -> Contents {
-    match fs::open(rt, name) {
-        Ok(mut file) => contents_of(&mut file, buf),
-        Err(_) => Contents::Unreadable,
-    }
+fn read_file(rt: &impl Files, name: &str, buf: &mut [u8]) -> io::Result<usize>
+    ensures { IfOk result (λ n. n ≤ length buf.new) }
+{
+    read_full(&mut fs::open(rt, name)?, buf)
 }
 
 // The reading of a fit input. More numbers than the table has room for are not fit.
@@ -53,28 +48,17 @@ fn print_fit(
 ) -> io::Result<()> {
     let mut table = [0u32; 1536];
     let count = numbers_of(records, &mut table);
-    let currency = fields.currency;
-    let identifier = fields.identifier;
-    if count <= table.len() {
-        printer::print_reading(
-            rt,
-            &table[0..count],
-            text,
-            bytes_at(input, currency),
-            bytes_at(input, identifier),
-            fields.rules,
-            fields.mode,
-        )?;
+    match table.get(..count) {
+        Some(numbers) => printer::print_reading(rt, numbers, text, input, fields),
+        None => Ok(()),
     }
-    Ok(())
 }
 
 // The reading, or that the input is unfit.
 fn print_input(rt: &impl Print, records: &[u8], text: &[u8], input: &[u8]) -> io::Result<()> {
-    let line = input_of(records, text, input);
-    match line {
-        Line::Fit(fields) => print_fit(rt, records, text, input, fields),
-        Line::Unfit => rt.write_all(b"unfit\n"),
+    match input_of(records, text, input) {
+        Some(fields) => print_fit(rt, records, text, input, fields),
+        None => rt.print("unfit\n"),
     }
 }
 
@@ -90,20 +74,13 @@ fn main(rt: HostRuntime) -> io::Result<()> {
     let mut records = [0u8; 6145];
     let mut text = [0u8; 65537];
     let mut input = line_buffer();
-    let recs = file_contents(&rt, "settlement.rec", &mut records);
-    let txt = file_contents(&rt, "settlement.txt", &mut text);
-    let line = contents_of(&mut rt.stdin(), &mut input);
-    if let Contents::Bytes(n) = recs {
-        if let Contents::Bytes(m) = txt {
-            if let Contents::Bytes(k) = line {
-                return print_input(
-                    &rt,
-                    text::clip(&records, 0, n),
-                    text::clip(&text, 0, m),
-                    text::clip(&input, 0, k),
-                );
-            }
-        }
+    let read = (
+        read_file(&rt, "settlement.rec", &mut records),
+        read_file(&rt, "settlement.txt", &mut text),
+        read_full(&mut rt.stdin(), &mut input),
+    );
+    match read {
+        (Ok(n), Ok(m), Ok(k)) => print_input(&rt, &records[..n], &text[..m], &input[..k]),
+        _ => rt.print("unfit\n"),
     }
-    rt.write_all(b"unfit\n")
 }

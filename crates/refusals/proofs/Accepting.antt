@@ -1,11 +1,10 @@
--- A table is refused by none of 3 to 9 just where it is what `Accepted` says, and a refusal names the first record that offends.
-use mathlib.Core.Path.{◌≡◌, refl, sym}
-use mathlib.Core.Bool.{Bool, true, false, cond, ◌||◌, not}
+-- A table is refused by none of 3 to 9 just where it is what `Accepted` says, and a refusal names the first record that offends (`first_offends`).
+use mathlib.Core.Path.{◌≡◌, refl}
+use mathlib.Core.Bool.{Bool, true, false, ◌||◌, not}
 use mathlib.Core.List.{List}
 use mathlib.Core.Option.{Option, none, some}
-use Prim.Native.Nat.{ℕ, zero, suc, ◌+◌, ◌-◌, ◌%◌, ◌≤◌, ◌<◌}
+use Prim.Native.Nat.{ℕ, ◌-◌, ◌%◌}
 use native.Mathlib.Omega.{arith}
-use native.Mathlib.Decide.{ℕ_discrete}
 use borrow.Author.Tests.{eqb-true, eqb-false, ltb-false, ne_eqb, eq-eqb, le-ltb}
 use lib.Dec.{ltb, eqb}
 use lib.ListN.{length}
@@ -13,47 +12,18 @@ use Rattle.text.specs.Utf8.{bytes}
 use Rattle.text.specs.Order.{equal}
 use Rattle.text.proofs.Bools.{not_both}
 use Rattle.text.proofs.Orders.{equal_is, equal_refl}
+pub use Rattle.table.proofs.Scans.{none_offends, all_pass, first_offends}
 use Rattle.table.specs.Table.{records, name_of, named, first_from}
 use Rattle.refusals.specs.Refusals.{ragged, oversized, not_root, misplaced, outside, not_utf8, not_settlement, at_root, refuse, record_refusal, size_refusal, refusal}
 use Rattle.refusals.specs.Acceptance.{Accepted}
 
-some≢none : {A : Type 0} {X : Type 0} {a : A} → some a ≡ none → X
-some≢none e = absurd (let w : ◌≡◌ {A = ℕ} 0 1 = cc in omega arith)
-
--- no record offends
-pub none_offends : (p : ℕ → Bool) (m j : ℕ) → first_from p j m ≡ none → (k : ℕ) → j ≤ k → k < j + m → p k ≡ false
-unfolding first_from
-none_offends p zero j e k h h' = absurd (omega arith)
-none_offends p (suc m) j e k h h' = go (p j) refl e (none_offends p m (suc j))
-  where
-    go : (b : Bool) → p j ≡ b → cond b (some j) (first_from p (suc j) m) ≡ none → (first_from p (suc j) m ≡ none → (k : ℕ) → suc j ≤ k → k < suc j + m → p k ≡ false) → p k ≡ false
-    go true q f r = some≢none f
-    go false q f r = elim (ℕ_discrete k j) [ yes z ↦ rw z q | no z ↦ r f k (omega arith) (omega arith) ]
-
-pub all_pass : (p : ℕ → Bool) (m j : ℕ) → ((k : ℕ) → j ≤ k → k < j + m → p k ≡ false) → first_from p j m ≡ none
-unfolding first_from
-all_pass p zero j f = refl
-all_pass p (suc m) j f = rw (f j (omega arith) (omega arith)) (all_pass p m (suc j) (λ k h h'. f k (omega arith) (omega arith)))
-
--- the record that a refusal names offends, and none before it does
-pub first_offends : (p : ℕ → Bool) (m j r : ℕ) → first_from p j m ≡ some r → (p r ≡ true) × ((k : ℕ) → j ≤ k → k < r → p k ≡ false)
-unfolding first_from
-first_offends p zero j r e = some≢none (sym e)
-first_offends p (suc m) j r e = go (p j) refl e (first_offends p m (suc j) r)
-  where
-    go : (b : Bool) → p j ≡ b → cond b (some j) (first_from p (suc j) m) ≡ some r →
-        (first_from p (suc j) m ≡ some r → (p r ≡ true) × ((k : ℕ) → suc j ≤ k → k < r → p k ≡ false)) →
-        (p r ≡ true) × ((k : ℕ) → j ≤ k → k < r → p k ≡ false)
-    go true q f s = let z : j ≡ r = cc in (rw z at q, λ k h h'. absurd (omega arith))
-    go false q f s = let u = s f in (u.0, λ k h h'. elim (ℕ_discrete k j) [ yes z ↦ rw z q | no z ↦ u.1 k (omega arith) h' ])
-
 -- a refusal that did not happen
 pub passed_on : (n : ℕ) (o : Option ℕ) (next : Option (ℕ × ℕ)) → refuse n o next ≡ none → (o ≡ none) × (next ≡ none)
 passed_on n none next e = (refl, e)
-passed_on n (some r) next e = some≢none e
+passed_on n (some r) next e = cc
 
 pub at_none : (b : Bool) → at_root b ≡ none → b ≡ false
-at_none true e = some≢none e
+at_none true e = cc
 at_none false e = refl
 
 pub neither : (p q : Bool) → (p || q) ≡ false → (p ≡ false) × (q ≡ false)

@@ -1,3 +1,4 @@
 pub mod Refusals
 pub mod Acceptance
+pub mod Reasons
 pub mod Verdicts

@@ -5,6 +5,8 @@
 // nothing of its own.
 #![tactic(auto)]
 
+mod reasons;
 mod refusal;
 
-pub use refusal::{Verdict, check};
+pub use reasons::{Reason, Refusal};
+pub use refusal::check;

@@ -3,3 +3,4 @@ pub mod Cells
 pub mod Widths
 pub mod Meanings
 pub mod RowsOf
+pub mod Holding

@@ -3,3 +3,4 @@ pub mod Rows
 pub mod Encoding
 pub mod Columns
 pub mod Values
+pub mod HeldRows

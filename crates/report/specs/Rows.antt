@@ -1,6 +1,6 @@
 -- The rows of a reading (document 01, "Rows"), over what stands for a text: its place, or its bytes. Amounts are hundredths, a percentage is an unscaled number and its scale, a date is the number CCYYMMDD.
 use Rattle.std.proofs.Math.Option.{Option, map}
-use Rattle.std.specs.Prelude.{ℕ, ℤ}
+use Rattle.std.specs.Prelude.{Bool, cond, ℕ, ℤ}
 use Rattle.names.specs.declared.message.Message.{Message}
 use Rattle.names.specs.declared.path.Path.{Path}
 use Rattle.names.specs.declared.term.Term.{Term}
@@ -56,6 +56,10 @@ pub data Held (X : Type 0) : Type 0 where
   allowance : AllowanceCharge X → Held X
   charge : AllowanceCharge X → Held X
   preceding : Preceding X → Held X
+
+-- the row of an allowance or a charge, by whether it is a charge
+abbrev pub held_as : {X : Type 0} → Bool → AllowanceCharge X → Held X
+held_as b a = cond b charge allowance a
 
 -- an element that the reader does not map
 pub record Unmapped (X : Type 0) : Type 0 where

@@ -1,12 +1,8 @@
 -- What the code's values mean.
+use Rattle.text.specs.Options.{option_of}
 use Rattle.std.proofs.Math.Option.{Option, none, some}
 use Rattle.std.specs.Prelude.{ℕ, ◌+◌, ℤ}
 use Rattle.report.specs.declared.value.Place as Code
-use Rattle.report.specs.declared.value.Text.{Text}
-use Rattle.report.specs.declared.value.Amount.{Amount}
-use Rattle.report.specs.declared.value.Percent.{Percent}
-use Rattle.report.specs.declared.value.Day.{Day}
-use Rattle.report.specs.declared.value.Index.{Index}
 use Rattle.report.specs.declared.entry.Entry as CodeEntry
 use Rattle.report.specs.declared.held.Transfer as CodeTransfer
 use Rattle.report.specs.declared.held.Vat as CodeVat
@@ -14,39 +10,33 @@ use Rattle.report.specs.declared.held.AllowanceCharge as CodeAllowanceCharge
 use Rattle.report.specs.declared.held.Preceding as CodePreceding
 use Rattle.report.specs.declared.unmapped_row.Unmapped as CodeUnmapped
 use Rattle.report.specs.Rows.{Place, Entry, Transfer, Vat, AllowanceCharge, Preceding, Unmapped}
+use Rattle.std.specs.declared.option.Option as code
+use Rattle.std.specs.Prelude.{None, Some}
+use Rattle.amount.specs.declared.amount.InvoiceAmount.{InvoiceAmount}
+use Rattle.amount.specs.declared.numeric.Percentage.{Percentage}
 
 -- a text's place, behind what was trimmed off
 abbrev pub place_of : Code.Place → Place
 place_of p = record { start = p.start + p.skip; len = p.len }
 
 -- absent or at a place
-abbrev pub text_of : Text → Option Place
-text_of Text.Absent = none
-text_of (Text.At p) = some (place_of p)
+abbrev pub text_of : code.Option Code.Place → Option Place
+text_of None = none
+text_of (Some p) = some (place_of p)
 
 -- absent or a count of hundredths
-abbrev pub amount_of : Amount → Option ℤ
-amount_of Amount.Absent = none
-amount_of (Amount.Of a) = some a.0
+abbrev pub amount_of : code.Option InvoiceAmount → Option ℤ
+amount_of None = none
+amount_of (Some a) = some a.0
 
 -- absent or its unscaled number and scale
-abbrev pub percent_of : Percent → Option (ℤ × ℕ)
-percent_of Percent.Absent = none
-percent_of (Percent.Of q) = some (q.unscaled, q.scale)
-
--- absent or the number CCYYMMDD
-abbrev pub day_of : Day → Option ℕ
-day_of Day.Absent = none
-day_of (Day.On d) = some d
-
--- absent or a place among the groups of a kind
-abbrev pub index_of : Index → Option ℕ
-index_of Index.Absent = none
-index_of (Index.At i) = some i
+abbrev pub percent_of : code.Option Percentage → Option (ℤ × ℕ)
+percent_of None = none
+percent_of (Some q) = some (q.unscaled, q.scale)
 
 -- an entry
 abbrev pub entry_of : CodeEntry.Entry → Entry Place
-entry_of e = record { message = e.message; path = e.path; term = e.term; index = index_of e.index; value = text_of e.value }
+entry_of e = record { message = e.message; path = e.path; term = e.term; index = option_of e.index; value = text_of e.value }
 
 -- BG-17
 abbrev pub transfer_of : CodeTransfer.Transfer → Transfer Place
@@ -79,7 +69,7 @@ allowance_charge_of a =
 
 -- BG-3
 abbrev pub preceding_of : CodePreceding.Preceding → Preceding Place
-preceding_of p = record { reference = place_of p.reference; date = day_of p.date }
+preceding_of p = record { reference = place_of p.reference; date = option_of p.date }
 
 -- an unmapped element
 abbrev pub unmapped_of : CodeUnmapped.Unmapped → Unmapped Place

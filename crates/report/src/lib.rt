@@ -5,24 +5,19 @@
 // function has a `requires`, and the crate assumes nothing of its own.
 #![tactic(auto)]
 
-mod cursor;
 mod entry;
 mod held;
 mod list;
 mod unmapped_row;
 mod value;
 
-pub use cursor::Cursor;
 pub use entry::{Entry, put_entry};
 pub use held::{
-    AllowanceCharge, Preceding, Transfer, Vat, put_allowance, put_charge, put_preceding,
+    AllowanceCharge, HeldRows, Preceding, Transfer, Vat, put_allowance_charge, put_preceding,
     put_transfer, put_vat,
 };
 pub use list::{
     ENTRY_ROOM, ENTRY_WIDTH, HELD_ROOM, HELD_WIDTH, UNMAPPED_ROOM, UNMAPPED_WIDTH, behind, put_row,
 };
 pub use unmapped_row::{Unmapped, put_unmapped};
-pub use value::{
-    Amount, Day, Index, Percent, Place, Text, amount_hundredths, amount_present, day_number,
-    text_length, text_start,
-};
+pub use value::{Place, amount_hundredths, amount_present, or_absent, text_length, text_start};

@@ -1,7 +1,6 @@
 // Numbers put into a lent list, each where there is room: a list that is too short takes what fits, and
 // nothing else in it changes.
-ghost use Rattle.std.specs.Prelude.{◌≡◌, ◌+◌, set};
-ghost use Rattle.names.specs.Put.{put};
+ghost use Rattle.std.specs.Prelude.{◌≡◌};
 ghost use Rattle.report.specs.Placed as placed;
 ghost use Rattle.report.specs.Placed.{Placed};
 
@@ -19,30 +18,6 @@ pub const ENTRY_ROOM: usize = 4 * ENTRY_WIDTH;
 
 pub const UNMAPPED_ROOM: usize = UNMAPPED_WIDTH;
 
-// Puts v at place at + i, if the list has it.
-fn put_number(list: &mut [i64], at: usize, i: usize, v: i64)
-    ensures { list.new ≡ set list.old (at + i) v }
-{
-    if list.len() <= at {
-        return;
-    }
-    if list.len() - at <= i {
-        return;
-    }
-    list[at + i] = v;
-}
-
-// Puts numbers into a list from a place on.
-fn put_numbers(list: &mut [i64], at: usize, numbers: &[i64])
-    ensures { list.new ≡ put list.old at numbers.now }
-{
-    let mut i = 0;
-    while i < numbers.len() {
-        put_number(list, at, i, numbers[i]);
-        i += 1;
-    }
-}
-
 // The place behind n numbers or bytes put at a place of a list of this size.
 pub fn behind(size: usize, at: usize, n: usize) -> usize
     ensures { result ≡ placed.behind size at n }
@@ -57,9 +32,10 @@ pub fn behind(size: usize, at: usize, n: usize) -> usize
 }
 
 // Puts a row into a list at a place, and answers where the next goes.
-pub fn put_row(list: &mut [i64], at: usize, row: &[i64]) -> usize
+#[tactic(auto, using(crate::proofs::Placing::placed_by))]
+pub fn put_row<T: Copy>(list: &mut [T], at: usize, row: &[T]) -> usize
     ensures { Placed list.old at row.now list.new result }
 {
-    put_numbers(list, at, row);
+    names::put(list, at, row);
     behind(list.len(), at, row.len())
 }

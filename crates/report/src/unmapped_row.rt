@@ -4,7 +4,7 @@ ghost use Rattle.report.specs.Encoding.{unmapped_row};
 ghost use Rattle.report.specs.Values.{unmapped_of};
 
 use crate::list::{UNMAPPED_WIDTH, put_row};
-use crate::value::{Place, signed};
+use crate::value::Place;
 use names::Parent;
 
 // The element's parent and its name.
@@ -18,8 +18,10 @@ pub struct Unmapped {
 pub fn put_unmapped(list: &mut [i64], at: usize, u: Unmapped) -> usize
     ensures { Placed list.old at (unmapped_row (unmapped_of u)) list.new result }
 {
-    let parent = u.parent;
-    let name = u.name;
-    let row: [i64; UNMAPPED_WIDTH] = [signed(parent.number()), name.start(), name.length()];
+    let row: [i64; UNMAPPED_WIDTH] = [
+        i64::from(u.parent.number()),
+        u.name.start(),
+        u.name.length(),
+    ];
     put_row(list, at, &row)
 }

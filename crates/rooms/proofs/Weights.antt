@@ -7,8 +7,7 @@ use native.Mathlib.Omega.{arith}
 use lib.Dec.{leb, eqb}
 use lib.ListN.{length, length-append}
 use Rattle.text.specs.Utf8.{encode}
-use Rattle.characters.specs.declared.utf8.Char.TheVariants.{Point}
-use Rattle.characters.specs.Characters.{encode_all, chars, utf8}
+use Rattle.characters.specs.Characters.{Point, encode_all, chars, utf8}
 use Rattle.characters.proofs.Encoding.{chars_encoded, utf8_encoded}
 use Rattle.markup.specs.Points.{points_of, points, lines, logical}
 

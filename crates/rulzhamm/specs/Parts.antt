@@ -1,9 +1,9 @@
 -- The code's answer as a row, in the parts in which it is put.
+use Rattle.text.specs.Options.{option_of}
 use Rattle.std.specs.Prelude.{List, [], ◌∷◌, ◌++◌, ◌<◌, ◌^◌, ℤ, pos}
 use Rattle.report.specs.Encoding.{text_cells, or_absent}
-use Rattle.report.specs.Values.{text_of, day_of}
+use Rattle.report.specs.Values.{text_of}
 use Rattle.settlement.specs.Result.{flag, terms_row}
-use Rattle.groups.specs.Taxes.{point_code_of}
 use Rattle.terms.specs.Terms.{terms_of}
 use Rattle.reader.specs.declared.answer.Answer.{Answer}
 use Rattle.terms.specs.declared.terms.Terms.{Terms}
@@ -13,9 +13,9 @@ abbrev pub plain_cells : Terms → List ℤ
 plain_cells t =
     text_cells (text_of t.bt5) ++
     text_cells (text_of t.bt6) ++
-    or_absent (day_of t.bt7) ∷
-    or_absent (point_code_of t.bt8) ∷
-    or_absent (day_of t.bt9) ∷
+    or_absent (option_of t.bt7) ∷
+    or_absent (option_of t.bt8) ∷
+    or_absent (option_of t.bt9) ∷
     text_cells (text_of t.bt19) ++
     text_cells (text_of t.bt20)
 

@@ -7,26 +7,23 @@ ghost use Rattle.payment.specs.Walks.{means_of};
 ghost use Rattle.totals.specs.Reading.{totals_of};
 ghost use Rattle.steps.specs.States.{maybe_payee_of, maybe_period_of};
 
-use groups::MaybeIdentifier;
+use groups::{Identifier, Payee, Period};
 use payment::Means;
-use report::{amount_hundredths, amount_present, day_number, put_row, text_length, text_start};
-use steps::{MaybePayee, MaybePeriod};
+use report::{amount_hundredths, amount_present, or_absent, put_row, text_length, text_start};
 use totals::Totals;
 
 // An identifier and its scheme.
-fn put_identifier(row: &mut [i64], at: usize, i: MaybeIdentifier) -> usize
+fn put_identifier(row: &mut [i64], at: usize, i: Option<Identifier>) -> usize
     ensures { Placed row.old at (identifier_cells (maybe_identifier_of i)) row.new result }
 {
     match i {
-        MaybeIdentifier::Absent => put_row(row, at, &[-1, 0, -1, 0]),
-        MaybeIdentifier::Of(id) => {
-            let content = id.content;
-            let scheme = id.scheme;
+        None => put_row(row, at, &[-1, 0, -1, 0]),
+        Some(id) => {
             let cells: [i64; 4] = [
-                content.start(),
-                content.length(),
-                text_start(scheme),
-                text_length(scheme),
+                id.content.start(),
+                id.content.length(),
+                text_start(id.scheme),
+                text_length(id.scheme),
             ];
             put_row(row, at, &cells)
         }
@@ -34,33 +31,28 @@ fn put_identifier(row: &mut [i64], at: usize, i: MaybeIdentifier) -> usize
 }
 
 // BG-10: whether there is one, BT-59, BT-60, BT-61.
-pub(crate) fn put_payee(row: &mut [i64], at: usize, p: MaybePayee) -> usize
+pub(crate) fn put_payee(row: &mut [i64], at: usize, p: Option<Payee>) -> usize
     ensures { Placed row.old at (payee_cells (maybe_payee_of p)) row.new result }
 {
     match p {
-        MaybePayee::Absent => put_row(row, at, &[0, -1, 0, -1, 0, -1, 0, -1, 0, -1, 0]),
-        MaybePayee::Of(payee) => {
-            let name = payee.name;
-            let identifier = payee.identifier;
-            let legal = payee.legal;
-            let cells: [i64; 3] = [1, text_start(name), text_length(name)];
+        None => put_row(row, at, &[0, -1, 0, -1, 0, -1, 0, -1, 0, -1, 0]),
+        Some(payee) => {
+            let cells: [i64; 3] = [1, text_start(payee.name), text_length(payee.name)];
             let at = put_row(row, at, &cells);
-            let at = put_identifier(row, at, identifier);
-            put_identifier(row, at, legal)
+            let at = put_identifier(row, at, payee.identifier);
+            put_identifier(row, at, payee.legal)
         }
     }
 }
 
 // BG-14: whether there is one, BT-73, BT-74.
-pub(crate) fn put_period(row: &mut [i64], at: usize, p: MaybePeriod) -> usize
+pub(crate) fn put_period(row: &mut [i64], at: usize, p: Option<Period>) -> usize
     ensures { Placed row.old at (period_cells (maybe_period_of p)) row.new result }
 {
     match p {
-        MaybePeriod::Absent => put_row(row, at, &[0, -1, -1]),
-        MaybePeriod::Of(period) => {
-            let start = period.start;
-            let end = period.end;
-            let cells: [i64; 3] = [1, day_number(start), day_number(end)];
+        None => put_row(row, at, &[0, -1, -1]),
+        Some(period) => {
+            let cells: [i64; 3] = [1, or_absent(period.start), or_absent(period.end)];
             put_row(row, at, &cells)
         }
     }
@@ -74,14 +66,12 @@ pub(crate) fn put_means(row: &mut [i64], at: usize, m: Means) -> usize
         Means::Unset => put_row(row, at, &[0, -1, 0, -1, 0, 0, -1, 0]),
         Means::Transfers => put_row(row, at, &[0, -1, 0, -1, 0, 0, -1, 0]),
         Means::Card(card) => {
-            let number = card.number;
-            let holder = card.holder;
             let cells: [i64; 8] = [
                 1,
-                text_start(number),
-                text_length(number),
-                text_start(holder),
-                text_length(holder),
+                text_start(card.number),
+                text_length(card.number),
+                text_start(card.holder),
+                text_length(card.holder),
                 0,
                 -1,
                 0,
@@ -108,34 +98,29 @@ pub(crate) fn put_means(row: &mut [i64], at: usize, m: Means) -> usize
 pub(crate) fn put_totals(row: &mut [i64], at: usize, t: Totals) -> usize
     ensures { Placed row.old at (totals_cells (totals_of t)) row.new result }
 {
-    let line = t.line;
-    let taxable = t.taxable;
-    let gross = t.gross;
-    let due = t.due;
-    let sums = t.sums;
-    let allowance = sums.allowance;
-    let charge = sums.charge;
-    let vat = sums.vat;
-    let accounting = sums.accounting;
-    let paid = sums.paid;
-    let rounding = sums.rounding;
+    let allowance = t.sums.allowance;
+    let charge = t.sums.charge;
+    let vat = t.sums.vat;
+    let accounting = t.sums.accounting;
+    let paid = t.sums.paid;
+    let rounding = t.sums.rounding;
     let cells: [i64; 16] = [
-        line.to_minor_units(),
-        amount_present(allowance),
-        amount_hundredths(allowance),
-        amount_present(charge),
-        amount_hundredths(charge),
-        taxable.to_minor_units(),
-        amount_present(vat),
-        amount_hundredths(vat),
-        amount_present(accounting),
-        amount_hundredths(accounting),
-        gross.to_minor_units(),
-        amount_present(paid),
-        amount_hundredths(paid),
-        amount_present(rounding),
-        amount_hundredths(rounding),
-        due.to_minor_units(),
+        t.line.to_minor_units(),
+        amount_present(t.sums.allowance),
+        amount_hundredths(t.sums.allowance),
+        amount_present(t.sums.charge),
+        amount_hundredths(t.sums.charge),
+        t.taxable.to_minor_units(),
+        amount_present(t.sums.vat),
+        amount_hundredths(t.sums.vat),
+        amount_present(t.sums.accounting),
+        amount_hundredths(t.sums.accounting),
+        t.gross.to_minor_units(),
+        amount_present(t.sums.paid),
+        amount_hundredths(t.sums.paid),
+        amount_present(t.sums.rounding),
+        amount_hundredths(t.sums.rounding),
+        t.due.to_minor_units(),
     ];
     put_row(row, at, &cells)
 }

@@ -1,17 +1,15 @@
 // The answer as one row: refusal number, record, three counts, the terms.
 ghost use Rattle.std.specs.Prelude.{◌≡◌, ◌<◌, ◌^◌, pos};
 ghost use Rattle.report.specs.Placed.{Placed};
-ghost use Rattle.report.specs.Encoding.{text_cells, or_absent};
+ghost use Rattle.report.specs.Encoding.{text_cells};
 ghost use Rattle.report.specs.Values.{text_of};
 ghost use Rattle.settlement.specs.Result.{flag, terms_row};
-ghost use Rattle.groups.specs.Taxes.{point_code_of};
 ghost use Rattle.terms.specs.Terms.{terms_of};
 ghost use Rattle.rulzhamm.specs.Parts.{plain_cells, payment_cells, count_cells, answer_cells, Small};
 
 use crate::groups_row::{put_means, put_payee, put_period, put_totals};
-use groups::PointCode;
 use reader::Answer;
-use report::{Text, day_number, put_row, text_length, text_start};
+use report::{Place, or_absent, put_row, text_length, text_start};
 use terms::Terms;
 
 // A count as a signed number.
@@ -22,25 +20,15 @@ fn signed(n: usize) -> i64
     n as i64
 }
 
-// A code of BT-8, absent -1.
-fn code_number(c: PointCode) -> i64
-    ensures { result ≡ or_absent (point_code_of c) }
-{
-    match c {
-        PointCode::Absent => -1,
-        PointCode::Of(n) => signed(n as usize),
-    }
-}
-
 // 1 for what is there, 0 for what is not.
 fn flag_number(there: bool) -> i64
     ensures { result ≡ flag there }
 {
-    if there { 1 } else { 0 }
+    i64::from(there)
 }
 
 // A text.
-fn put_text(row: &mut [i64], at: usize, t: Text) -> usize
+fn put_text(row: &mut [i64], at: usize, t: Option<Place>) -> usize
     ensures { Placed row.old at (text_cells (text_of t)) row.new result }
 {
     let cells: [i64; 2] = [text_start(t), text_length(t)];
@@ -51,25 +39,18 @@ fn put_text(row: &mut [i64], at: usize, t: Text) -> usize
 fn put_plain(row: &mut [i64], at: usize, t: Terms) -> usize
     ensures { Placed row.old at (plain_cells t) row.new result }
 {
-    let bt5 = t.bt5;
-    let bt6 = t.bt6;
-    let bt7 = t.bt7;
-    let bt8 = t.bt8;
-    let bt9 = t.bt9;
-    let bt19 = t.bt19;
-    let bt20 = t.bt20;
     let cells: [i64; 11] = [
-        text_start(bt5),
-        text_length(bt5),
-        text_start(bt6),
-        text_length(bt6),
-        day_number(bt7),
-        code_number(bt8),
-        day_number(bt9),
-        text_start(bt19),
-        text_length(bt19),
-        text_start(bt20),
-        text_length(bt20),
+        text_start(t.bt5),
+        text_length(t.bt5),
+        text_start(t.bt6),
+        text_length(t.bt6),
+        or_absent(t.bt7),
+        or_absent(t.bt8),
+        or_absent(t.bt9),
+        text_start(t.bt19),
+        text_length(t.bt19),
+        text_start(t.bt20),
+        text_length(t.bt20),
     ];
     put_row(row, at, &cells)
 }
@@ -78,17 +59,14 @@ fn put_plain(row: &mut [i64], at: usize, t: Terms) -> usize
 fn put_payment(row: &mut [i64], at: usize, t: Terms) -> usize
     ensures { Placed row.old at (payment_cells t) row.new result }
 {
-    let bt81 = t.bt81;
-    let bt82 = t.bt82;
-    let bt83 = t.bt83;
     let cells: [i64; 7] = [
         flag_number(t.paid),
-        text_start(bt81),
-        text_length(bt81),
-        text_start(bt82),
-        text_length(bt82),
-        text_start(bt83),
-        text_length(bt83),
+        text_start(t.bt81),
+        text_length(t.bt81),
+        text_start(t.bt82),
+        text_length(t.bt82),
+        text_start(t.bt83),
+        text_length(t.bt83),
     ];
     put_row(row, at, &cells)
 }
@@ -97,20 +75,14 @@ fn put_payment(row: &mut [i64], at: usize, t: Terms) -> usize
 pub(crate) fn put_terms(row: &mut [i64], at: usize, t: Terms) -> usize
     ensures { Placed row.old at (terms_row (terms_of t)) row.new result }
 {
-    let payee = t.payee;
-    let period = t.period;
-    let means = t.means;
-    let bt89 = t.bt89;
-    let bt90 = t.bt90;
-    let totals = t.totals;
     let at = put_plain(row, at, t);
-    let at = put_payee(row, at, payee);
-    let at = put_period(row, at, period);
+    let at = put_payee(row, at, t.payee);
+    let at = put_period(row, at, t.period);
     let at = put_payment(row, at, t);
-    let at = put_means(row, at, means);
-    let at = put_text(row, at, bt89);
-    let at = put_text(row, at, bt90);
-    put_totals(row, at, totals)
+    let at = put_means(row, at, t.means);
+    let at = put_text(row, at, t.bt89);
+    let at = put_text(row, at, t.bt90);
+    put_totals(row, at, t.totals)
 }
 
 // Refusal number, record and counts.
@@ -134,6 +106,5 @@ pub(crate) fn put_answer(row: &mut [i64; 65], a: Answer)
     ensures { row.new ≡ answer_cells a }
 {
     let at = put_counts(row, a);
-    let terms = a.terms;
-    put_terms(row, at, terms);
+    put_terms(row, at, a.terms);
 }

@@ -2,15 +2,16 @@
 use mathlib.Core.Path.{◌≡◌, fun_ext}
 use mathlib.Core.List.{List, []}
 use Prim.Native.Nat.{ℕ}
-use lib.IntN.{ℤ}
 use Rattle.report.specs.Rows.{Place, Entry, Held, Unmapped}
-use Rattle.report.specs.Placed.{Placed}
-use Rattle.report.proofs.Placing.{placed_none}
+use Rattle.report.specs.HeldRows.{Holds}
+use Rattle.report.specs.declared.held.HeldRows.{HeldRows}
+use Rattle.report.proofs.Holding.{holds_none}
 use Rattle.values.specs.Told.{Said}
 use Rattle.values.proofs.Telling.{said_none}
-use Rattle.unmapped.specs.Noting.{notings, Noted}
-use Rattle.unmapped.proofs.Notings.{notings_none}
-use Rattle.report.specs.Encoding.{held_row, rows_of}
+use Rattle.values.specs.declared.saying.Entries.{Entries}
+use Rattle.unmapped.specs.Acted.{Notes}
+use Rattle.unmapped.specs.declared.note.UnmappedRows.{UnmappedRows}
+use Rattle.unmapped.proofs.Notings.{notes_none}
 use Rattle.settlement.specs.Kinds.{Kind, creditor_reference, payment_reference, tax_currency, invoice_currency, payee, payment_means, trade_tax, period, allowance_charge, logistics_charge, payment_terms, summation, preceding_invoice, accounting, other}
 use Rattle.settlement.specs.Shapes.{State}
 
@@ -53,14 +54,13 @@ lanes {X} {s} {t} a b c d e f g h i j k l m n o = fun_ext go
     go other = o
 
 -- no row was put
-pub none_held : {hs : List (Held Place)} {a b : ℕ} → hs ≡ [] → b ≡ a → (h : List ℤ) → Placed h a (rows_of held_row hs) h b
-unfolding rows_of
-none_held {hs} {a} {b} e f h = rw (e, f) (placed_none h a)
+pub none_held : {hs : List (Held Place)} → hs ≡ [] → (h : HeldRows) → Holds hs h h
+none_held e h = rw e (holds_none h)
 
 -- nothing was said
-pub none_said : {es : List (Entry Place)} {a b : ℕ} → es ≡ [] → b ≡ a → (l : List ℤ) → Said es l a l b
-none_said {es} {a} {b} e f l = rw (e, f) (said_none l a)
+pub none_said : {es : List (Entry Place)} → es ≡ [] → (e : Entries) → Said es e e
+none_said q e = rw q (said_none e)
 
 -- no name was noted
-pub none_noted : {us : List (Unmapped Place)} {a b : ℕ} → us ≡ [] → b ≡ a → (x : List ℕ) (u : List ℤ) → Noted (notings x u a us) u b
-none_noted {us} {a} {b} e f x u = rw (e, f) (notings_none x u a)
+pub none_noted : {us : List (Unmapped Place)} → us ≡ [] → (x : List ℕ) (u : UnmappedRows) → Notes x us u u
+none_noted e x u = rw e (notes_none x u)

@@ -1,47 +1,47 @@
 -- What the code's state of a reading means.
-use Rattle.std.specs.Prelude.{◌≡◌}
 use Rattle.std.proofs.Math.Option.{Option, none, some}
 use Rattle.report.specs.Rows.{Place}
 use Rattle.report.specs.Values.{text_of}
 use Rattle.settlement.specs.Kinds.{creditor_reference, payment_reference, tax_currency, invoice_currency, payee, payment_means, trade_tax, period, allowance_charge, logistics_charge, payment_terms, summation, preceding_invoice, accounting, other}
-use Rattle.settlement.specs.Shapes.{Payee, Period, Totals, State, blank}
+use Rattle.settlement.specs.Shapes.{Payee, Period, Totals, State}
 use Rattle.groups.specs.Groups.{payee_of, period_of, payment_terms_of}
 use Rattle.groups.specs.Taxes.{vat_state_of}
 use Rattle.payment.specs.Walks.{payment_of}
 use Rattle.totals.specs.Reading.{totals_of}
-use Rattle.report.specs.declared.cursor.Cursor.{Cursor}
 use Rattle.steps.specs.declared.state.Plain.{Plain}
 use Rattle.steps.specs.declared.state.Tally.{Tally}
 use Rattle.steps.specs.declared.state.Billing.{Billing}
 use Rattle.steps.specs.declared.state.State as Code
-use Rattle.steps.specs.declared.state.Reference.{Reference}
-use Rattle.steps.specs.declared.state.MaybePayee.{MaybePayee}
-use Rattle.steps.specs.declared.state.MaybePeriod.{MaybePeriod}
-use Rattle.steps.specs.declared.state.MaybeTotals.{MaybeTotals}
+use Rattle.std.specs.declared.option.Option as code
+use Rattle.std.specs.Prelude.{None, Some}
+use Rattle.report.specs.declared.value.Place as CodePlace
+use Rattle.groups.specs.declared.shapes.Payee as CodePayee
+use Rattle.groups.specs.declared.shapes.Period as CodePeriod
+use Rattle.totals.specs.declared.state.Totals as CodeTotals
 
 -- BT-83, where a reference was met
-abbrev pub reference_of : Reference → Option (Option Place)
-reference_of Reference.Absent = none
-reference_of (Reference.Met t) = some (text_of t)
+abbrev pub reference_of : code.Option (code.Option CodePlace.Place) → Option (Option Place)
+reference_of None = none
+reference_of (Some t) = some (text_of t)
 
 -- BG-10
-abbrev pub maybe_payee_of : MaybePayee → Option (Payee Place)
-maybe_payee_of MaybePayee.Absent = none
-maybe_payee_of (MaybePayee.Of p) = some (payee_of p)
+abbrev pub maybe_payee_of : code.Option CodePayee.Payee → Option (Payee Place)
+maybe_payee_of None = none
+maybe_payee_of (Some p) = some (payee_of p)
 
 -- BG-14
-abbrev pub maybe_period_of : MaybePeriod → Option Period
-maybe_period_of MaybePeriod.Absent = none
-maybe_period_of (MaybePeriod.Of p) = some (period_of p)
+abbrev pub maybe_period_of : code.Option CodePeriod.Period → Option Period
+maybe_period_of None = none
+maybe_period_of (Some p) = some (period_of p)
 
 -- BG-22
-abbrev pub maybe_totals_of : MaybeTotals → Option Totals
-maybe_totals_of MaybeTotals.Absent = none
-maybe_totals_of (MaybeTotals.Of t) = some (totals_of t)
+abbrev pub maybe_totals_of : code.Option CodeTotals.Totals → Option Totals
+maybe_totals_of None = none
+maybe_totals_of (Some t) = some (totals_of t)
 
 -- the state of its parts
-abbrev pub state : Plain → Tally → Billing → MaybeTotals → Cursor → Code.State
-state p t b m c = record { plain = p; tally = t; billing = b; totals = m; cursor = c }
+abbrev pub state : Plain → Tally → Billing → code.Option CodeTotals.Totals → Code.State
+state p t b m = record { plain = p; tally = t; billing = b; totals = m }
 
 -- what each lane holds
 abbrev pub state_of : Code.State → State Place
@@ -60,10 +60,3 @@ state_of s summation = maybe_totals_of s.totals
 state_of s preceding_invoice = s.tally.invoices
 state_of s accounting = text_of s.plain.accounting
 state_of s other = tt
-
--- before the first child: every lane is blank, and rows go to the front
-pub record Fresh (s : Code.State) : Type 0 where
-  pub lanes : state_of s ≡ blank Place
-  pub held : s.cursor.held ≡ 0
-  pub entries : s.cursor.entries ≡ 0
-  pub unmapped : s.cursor.unmapped ≡ 0

@@ -1,15 +1,17 @@
 -- What a child did to the reading so far and to the lent lists, by its kind.
-use Rattle.std.specs.Prelude.{◌≡◌, cond, List, ℕ, ℤ}
+use Rattle.std.specs.Prelude.{◌≡◌, cond, List, ℕ}
 use Rattle.report.specs.Rows.{Place}
-use Rattle.report.specs.Placed.{Placed}
+use Rattle.report.specs.HeldRows.{Holds}
+use Rattle.report.specs.declared.held.HeldRows.{HeldRows}
 use Rattle.settlement.specs.Document.{Doc}
 use Rattle.settlement.specs.Kinds.{Kind, logistics_charge, same_kind, home}
 use Rattle.settlement.specs.Shapes.{Of, State, Act}
 use Rattle.settlement.specs.Settlement.{own, seen}
 use Rattle.settlement.specs.Values.{Lent}
 use Rattle.values.specs.Told.{Said}
-use Rattle.unmapped.specs.Noting.{notings, Noted}
-use Rattle.report.specs.Encoding.{held_row, rows_of}
+use Rattle.values.specs.declared.saying.Entries.{Entries}
+use Rattle.unmapped.specs.Acted.{Notes}
+use Rattle.unmapped.specs.declared.note.UnmappedRows.{UnmappedRows}
 use Rattle.steps.specs.States.{state_of}
 use Rattle.steps.specs.declared.state.State as Code
 
@@ -22,9 +24,9 @@ module _ (L : Lent) (D : Doc ℕ Place) where
   unfoldable pub step_by : Kind → State Place → ℕ → State Place
   step_by k s c = λ l. cond (same_kind l (home k)) (act_by k l s c).next (s l)
 
--- child c, of kind k, made r of s, and put what it holds, says and does not map into the three lists
-pub record Stepped (k : Kind) (L : Lent) (D : Doc ℕ Place) (x : List ℕ) (c : ℕ) (s r : Code.State) (h h' e e' u u' : List ℤ) : Type 0 where
+-- child c, of kind k, made r of s, and put what it holds, says and does not map among the rows
+pub record Stepped (k : Kind) (L : Lent) (D : Doc ℕ Place) (x : List ℕ) (c : ℕ) (s r : Code.State) (h h' : HeldRows) (e e' : Entries) (u u' : UnmappedRows) : Type 0 where
   pub state : state_of r ≡ step_by L D k (state_of s) c
-  pub held : Placed h s.cursor.held (rows_of held_row (act_by L D k (home k) (state_of s) c).holds) h' r.cursor.held
-  pub said : Said (act_by L D k (home k) (state_of s) c).says e s.cursor.entries e' r.cursor.entries
-  pub noted : Noted (notings x u s.cursor.unmapped (act_by L D k (home k) (state_of s) c).strays) u' r.cursor.unmapped
+  pub held : Holds (act_by L D k (home k) (state_of s) c).holds h h'
+  pub said : Said (act_by L D k (home k) (state_of s) c).says e e'
+  pub noted : Notes x (act_by L D k (home k) (state_of s) c).strays u u'

@@ -2,8 +2,8 @@
 // currencies and payee; when and how is paid; the summation. Children that make rows are crate `children`'s.
 //
 // The state goes by value, in parts, and a child's function is given its own; entries, transfers' rows and
-// unmapped names go to the lent lists, each behind what it had. A document is lent as a table, its text and
-// its links (crate `element`). No public function has a `requires`, and the crate assumes nothing of its own.
+// unmapped names go among the lent rows, each behind what they had. A document is lent as one value (crate
+// `element`). No public function has a `requires`, and the crate assumes nothing of its own.
 #![tactic(auto)]
 
 mod billing;
@@ -11,9 +11,7 @@ mod plain;
 mod state;
 mod summing;
 
-pub use billing::{Billed, billing_child};
+pub use billing::billing_child;
 pub use plain::plain_child;
-pub use state::{
-    Billing, MaybePayee, MaybePeriod, MaybeTotals, Plain, Reference, State, Tally, blank,
-};
-pub use summing::{Summed, summation};
+pub use state::{Billing, Plain, State, Tally, blank};
+pub use summing::summation;

@@ -1,48 +1,23 @@
-// The reading so far: what each kind of child of a settlement has made, and where the next rows go.
-ghost use Rattle.steps.specs.States.{Fresh};
+// The reading so far: what each kind of child of a settlement has made.
+ghost use Rattle.std.specs.Prelude.{◌≡◌};
+ghost use Rattle.report.specs.Rows as rows;
+ghost use Rattle.settlement.specs.Shapes.{blank};
+ghost use Rattle.steps.specs.States.{state_of};
 
-use groups::{Payee, PaymentTerms, Period, PointCode, VatState};
+use groups::{Payee, PaymentTerms, Period, VatState};
 use payment::{Means, Payment};
-use report::{Cursor, Day, Text};
+use report::Place;
 use totals::Totals;
 
-// BT-83: whether a PaymentReference was met, and its text.
-#[derive(Clone, Copy)]
-pub enum Reference {
-    Absent,
-    Met(Text),
-}
-
-// BG-10, if there is one.
-#[derive(Clone, Copy)]
-pub enum MaybePayee {
-    Absent,
-    Of(Payee),
-}
-
-// BG-14, if there is one.
-#[derive(Clone, Copy)]
-pub enum MaybePeriod {
-    Absent,
-    Of(Period),
-}
-
-// BG-22, if there is one.
-#[derive(Clone, Copy)]
-pub enum MaybeTotals {
-    Absent,
-    Of(Totals),
-}
-
-// What one child gives alone: BT-90, BT-83, BT-6, BT-5, BG-10 and BT-19.
+// What one child gives alone: BT-90, BT-83 (some, once a PaymentReference was met), BT-6, BT-5, BG-10 and BT-19.
 #[derive(Clone, Copy)]
 pub struct Plain {
-    pub creditor: Text,
-    pub reference: Reference,
-    pub tax_currency: Text,
-    pub invoice_currency: Text,
-    pub payee: MaybePayee,
-    pub accounting: Text,
+    pub creditor: Option<Place>,
+    pub reference: Option<Option<Place>>,
+    pub tax_currency: Option<Place>,
+    pub invoice_currency: Option<Place>,
+    pub payee: Option<Payee>,
+    pub accounting: Option<Place>,
 }
 
 // What is kept of children that make rows: VAT so far, and how many allowances, charges and preceding invoices
@@ -58,65 +33,58 @@ pub struct Tally {
 // When and how is paid: BG-14, the payment terms and BG-16.
 #[derive(Clone, Copy)]
 pub struct Billing {
-    pub period: MaybePeriod,
+    pub period: Option<Period>,
     pub terms: PaymentTerms,
     pub payment: Payment,
 }
 
-// The reading so far, in parts, so that a child's function is given no more than its own: with BG-22, and
-// where the next rows go.
+// The reading so far, in parts, so that a child's function is given no more than its own: with BG-22.
 #[derive(Clone, Copy)]
 pub struct State {
     pub plain: Plain,
     pub tally: Tally,
     pub billing: Billing,
-    pub totals: MaybeTotals,
-    pub cursor: Cursor,
+    pub totals: Option<Totals>,
 }
 
 // Before the first child.
 pub fn blank() -> State
-    ensures { Fresh result }
+    ensures { state_of result ≡ blank rows.Place }
 {
     State {
         plain: Plain {
-            creditor: Text::Absent,
-            reference: Reference::Absent,
-            tax_currency: Text::Absent,
-            invoice_currency: Text::Absent,
-            payee: MaybePayee::Absent,
-            accounting: Text::Absent,
+            creditor: None,
+            reference: None,
+            tax_currency: None,
+            invoice_currency: None,
+            payee: None,
+            accounting: None,
         },
         tally: Tally {
             vat: VatState {
                 breakdowns: 0,
-                point: Day::Absent,
-                code: PointCode::Absent,
-                first: Text::Absent,
+                point: None,
+                code: None,
+                first: None,
             },
             allowances: 0,
             charges: 0,
             invoices: 0,
         },
         billing: Billing {
-            period: MaybePeriod::Absent,
+            period: None,
             terms: PaymentTerms {
-                note: Text::Absent,
-                due: Day::Absent,
-                mandate: Text::Absent,
+                note: None,
+                due: None,
+                mandate: None,
             },
             payment: Payment {
                 met: false,
-                code: Text::Absent,
-                text: Text::Absent,
+                code: None,
+                text: None,
                 means: Means::Unset,
             },
         },
-        totals: MaybeTotals::Absent,
-        cursor: Cursor {
-            held: 0,
-            entries: 0,
-            unmapped: 0,
-        },
+        totals: None,
     }
 }

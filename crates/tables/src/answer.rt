@@ -1,69 +1,40 @@
 // The answer of a case: the verdict on a table, the records under each record, and look-ups by name.
-ghost use Rattle.std.specs.Prelude.{◌≡◌, cond, ◌+◌, ◌*◌, ◌/◌, ltb, length, get_or};
 
-use refusals::Verdict;
+use links::Siblings;
+use refusals::Refusal;
 use std::io;
 use table::Field;
 
 const SHOWN: usize = 64;
 
-fn print_verdict(rt: &impl Print, v: Verdict) -> io::Result<()> {
-    match v {
-        Verdict::Accepted => rt.print("accepted"),
-        Verdict::Refused(n, r) => print!(rt; "refused {n} {r}"),
-    }
-}
-
-// A link as a record's number.
-fn wide(x: u16) -> usize
-    ensures { result ≡ x }
-{
-    x as usize
-}
-
-// The first attribute of record i, and 0 where it has none or the links have no such record.
-fn first_attribute(links: &[u16], i: usize) -> usize
-    ensures { result ≡ cond (ltb i (length links.now / 3)) (get_or links.now (i * 3 + 1) 0) 0 }
-{
-    if i < links.len() / 3 {
-        wide(links[i * 3 + 1])
-    } else {
-        0
-    }
-}
-
-// The records that the links of record i spell from `first` on, after a mark.
-fn print_linked(
-    rt: &impl Print,
-    links: &[u16],
-    i: usize,
-    first: usize,
-    mark: &str,
-) -> io::Result<()> {
-    if first == 0 {
-        return Ok(());
-    }
-    print!(rt; " {i}{mark}{first}")?;
-    let mut c = first;
-    let mut left = links.len() / 3;
-    while 0 < left {
-        c = links::next_of(links, c);
-        if c == 0 {
-            return Ok(());
+fn print_verdict(rt: &impl Print, verdict: Result<(), Refusal>) -> io::Result<()> {
+    match verdict {
+        Ok(()) => rt.print("accepted"),
+        Err(refusal) => {
+            let n = refusal.reason.number();
+            let r = refusal.record;
+            print!(rt; "refused {n} {r}")
         }
+    }
+}
+
+// The records that are linked under record i, if there are any, after a mark.
+fn print_linked(rt: &impl Print, i: usize, mark: &str, mut linked: Siblings<'_>) -> io::Result<()> {
+    let Some(first) = linked.next() else {
+        return Ok(());
+    };
+    print!(rt; " {i}{mark}{first}")?;
+    for c in linked {
         print!(rt; ",{c}")?;
-        left -= 1;
     }
     Ok(())
 }
 
 // Children and attributes of the first n records.
 fn print_links(rt: &impl Print, n: usize, links: &[u16]) -> io::Result<()> {
-    let mut i = 0;
-    while i < n {
-        print_linked(rt, links, i, links::first_of(links, i), ">")?;
-        print_linked(rt, links, i, first_attribute(links, i), "@")?;
-        i += 1;
+    for i in 0..n {
+        print_linked(rt, i, ">", links::children(links, i))?;
+        print_linked(rt, i, "@", links::attributes(links, i))?;
     }
     Ok(())
 }
@@ -105,10 +76,8 @@ fn print_lookups(
     n: usize,
     links: &[u16],
 ) -> io::Result<()> {
-    let mut j = 1;
-    while j < n {
+    for j in 1..n {
         print_found(rt, table, text, j, links)?;
-        j += 1;
     }
     Ok(())
 }
@@ -118,8 +87,7 @@ pub(crate) fn print_answer(rt: &impl Print, table: &[u32], text: &[u8]) -> io::R
     print_verdict(rt, refusals::check(table, text))?;
     let mut links = [0u16; 12288];
     links::link(table, &mut links);
-    let count = table::count(table);
-    let n = if count < SHOWN { count } else { SHOWN };
+    let n = table::count(table).min(SHOWN);
     print_links(rt, n, &links)?;
     print_lookups(rt, table, text, n, &links)
 }

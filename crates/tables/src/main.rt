@@ -9,34 +9,31 @@
 
 mod answer;
 
-ghost use Rattle.std.specs.Prelude.{◌≡◌};
-
 use crate::answer::print_answer;
 use cases::find;
 use std::io;
+use std::io::{BufRead, BufReader};
 
-fn wide(x: u32) -> usize
-    ensures { result ≡ x }
-{
-    x as usize
-}
+// The most zeros and zero bytes of a case.
+const ZEROS: usize = 24600;
 
-// The answer for the first n of the zeros and m of the blank bytes.
-fn print_zeros(rt: &impl Print, n: usize, m: usize, zeros: &[u32], blank: &[u8]) -> io::Result<()> {
-    if n <= zeros.len() {
-        if m <= blank.len() {
-            return print_answer(rt, &zeros[0..n], &blank[0..m]);
-        }
+const BLANK: usize = 65536;
+
+// The answer for n zeros and m zero bytes.
+fn print_zeros(rt: &(impl Print + AllocGlobal), n: usize, m: usize) -> io::Result<()> {
+    if n > ZEROS || m > BLANK {
+        return rt.print("unfit");
     }
-    rt.print("unfit")
+    let zeros = vec![in rt.alloc(); 0u32; n]?;
+    let blank = vec![in rt.alloc(); 0u8; m]?;
+    print_answer(rt, &zeros, &blank)
 }
 
 // The two numbers of a line `zeros N M`.
-fn print_counts(rt: &impl Print, counts: &[u8], zeros: &[u32], blank: &[u8]) -> io::Result<()> {
+fn print_counts(rt: &(impl Print + AllocGlobal), counts: &[u8]) -> io::Result<()> {
     let mut both = [0u32; 2];
-    let n = cases::numbers(counts, &mut both);
-    if n == 2 {
-        return print_zeros(rt, wide(both[0]), wide(both[1]), zeros, blank);
+    if cases::numbers(counts, &mut both) == 2 {
+        return print_zeros(rt, both[0] as usize, both[1] as usize);
     }
     rt.print("unfit")
 }
@@ -52,60 +49,37 @@ fn print_table(
     let n = cases::numbers(numbers, table);
     let m = cases::fill(escaped, 0, text);
     if n <= table.len() {
-        return print_answer(rt, &table[0..n], text::part(text, 0, m));
+        return print_answer(rt, &table[..n], text::part(text, 0, m));
     }
     rt.print("unfit")
 }
 
 fn print_line(
-    rt: &impl Print,
+    rt: &(impl Print + AllocGlobal),
     line: &[u8],
     table: &mut [u32],
     text: &mut [u8],
-    zeros: &[u32],
-    blank: &[u8],
 ) -> io::Result<()> {
-    let end = line.len();
-    if end < 6 {
+    if line.len() < 6 {
         return rt.print("unfit");
     }
     if line[0] == b'z' {
-        return print_counts(rt, &line[6..], zeros, blank);
+        return print_counts(rt, &line[6..]);
     }
     let colon = find(line, 1, b':');
-    if colon == end {
+    if colon == line.len() {
         return rt.print("unfit");
     }
-    let before = colon - 1;
-    let after = colon + 1;
-    print_table(rt, &line[0..before], &line[after..], table, text)
+    print_table(rt, &line[..colon - 1], &line[colon + 1..], table, text)
 }
 
 // Each line of the input, of which the last may lack its line feed.
-fn print_lines(
-    rt: &impl Print,
-    input: &[u8],
-    table: &mut [u32],
-    text: &mut [u8],
-    zeros: &[u32],
-    blank: &[u8],
-) -> io::Result<()> {
-    let mut from = 0;
-    while from < input.len() {
-        let end = find(input, from, b'\n');
-        print_line(rt, &input[from..end], table, text, zeros, blank)?;
-        rt.print("\n")?;
-        from = end + 1;
-    }
-    Ok(())
-}
-
 fn main(rt: HostRuntime) -> io::Result<()> {
-    let mut input = [0u8; 262144];
     let mut table = [0u32; 4096];
     let mut text = [0u8; 65536];
-    let zeros = [0u32; 24600];
-    let blank = [0u8; 65536];
-    let n = cases::read_full(&mut rt.stdin(), &mut input)?;
-    print_lines(&rt, &input[..n], &mut table, &mut text, &zeros, &blank)
+    for line in BufReader::new(rt.alloc(), rt.stdin())?.split(rt.alloc(), b'\n') {
+        print_line(&rt, &line?, &mut table, &mut text)?;
+        rt.print("\n")?;
+    }
+    Ok(())
 }

@@ -1,5 +1,5 @@
 -- The end of a reading in the code's terms.
-use Rattle.std.specs.Prelude.{◌≡◌, Bool, cond, not, ◌||◌, List, ◌++◌, ℕ, ℤ}
+use Rattle.std.specs.Prelude.{◌≡◌, Bool, cond, not, ◌||◌, List, ◌++◌, ℕ}
 use Rattle.std.proofs.Math.Option.{Option, none}
 use Rattle.codes.specs.declared.rules.Rule.TheVariants as Rule
 use Rattle.names.specs.declared.path.Path.TheVariants as Path
@@ -11,10 +11,11 @@ use Rattle.settlement.specs.Settlement.{Debit}
 use Rattle.settlement.specs.Summation.{is_none}
 use Rattle.settlement.specs.Values.{site, missing}
 use Rattle.values.specs.Told.{Said}
+use Rattle.values.specs.declared.saying.Entries.{Entries}
 use Rattle.payment.specs.Walks.{means_of}
 use Rattle.terms.specs.Terms.{terms_of}
 use Rattle.terms.specs.declared.debit.Debit as CodeDebit
-use Rattle.terms.specs.declared.finishing.Finished as CodeFinished
+use Rattle.terms.specs.declared.terms.Terms as CodeTerms
 
 -- no summation: four absences
 unfoldable pub missing_totals : ℕ → List (Entry Place)
@@ -32,13 +33,13 @@ abbrev pub is_paid : Bool → Option (Option Place) → Option Place → Option 
 is_paid met reference mandate creditor = met || (not (is_none reference) || (not (is_none mandate) || not (is_none creditor)))
 
 -- means, mandate and creditor identifier are those, and what is said of them was put
-pub record Debited (d : Debit Place) (before : List ℤ) (at : ℕ) (r : CodeDebit.Debit) (after : List ℤ) : Type 0 where
+pub record Debited (d : Debit Place) (before : Entries) (r : CodeDebit.Debit) (after : Entries) : Type 0 where
   pub means : means_of r.means ≡ d.means
   pub mandate : text_of r.mandate ≡ d.mandate
   pub creditor : text_of r.creditor ≡ d.creditor
-  pub said : Said d.says before at after r.at
+  pub said : Said d.says before after
 
 -- the terms are those, and what is said at the end was put
-pub record Ended (t : Terms Place) (es : List (Entry Place)) (before : List ℤ) (at : ℕ) (r : CodeFinished.Finished) (after : List ℤ) : Type 0 where
-  pub terms : terms_of r.terms ≡ t
-  pub said : Said es before at after r.at
+pub record Ended (t : Terms Place) (es : List (Entry Place)) (before : Entries) (r : CodeTerms.Terms) (after : Entries) : Type 0 where
+  pub terms : terms_of r ≡ t
+  pub said : Said es before after

@@ -1,8 +1,8 @@
 -- What the code's terms mean.
+use Rattle.text.specs.Options.{option_of}
 use Rattle.report.specs.Rows.{Place}
-use Rattle.report.specs.Values.{text_of, day_of}
+use Rattle.report.specs.Values.{text_of}
 use Rattle.settlement.specs.Shapes.{Terms}
-use Rattle.groups.specs.Taxes.{point_code_of}
 use Rattle.payment.specs.Walks.{means_of}
 use Rattle.totals.specs.Reading.{totals_of}
 use Rattle.steps.specs.States.{maybe_payee_of, maybe_period_of}
@@ -14,9 +14,9 @@ terms_of t =
     record {
       bt5 = text_of t.bt5;
       bt6 = text_of t.bt6;
-      bt7 = day_of t.bt7;
-      bt8 = point_code_of t.bt8;
-      bt9 = day_of t.bt9;
+      bt7 = option_of t.bt7;
+      bt8 = option_of t.bt8;
+      bt9 = option_of t.bt9;
       bt19 = text_of t.bt19;
       bt20 = text_of t.bt20;
       payee = maybe_payee_of t.payee;

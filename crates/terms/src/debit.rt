@@ -5,7 +5,6 @@ ghost use Rattle.names.specs.declared.term.Term.TheVariants as Term;
 ghost use Rattle.report.specs.Values.{text_of};
 ghost use Rattle.settlement.specs.Document.{maybe};
 ghost use Rattle.settlement.specs.Settlement as reading;
-ghost use Rattle.settlement.specs.Summation.{is_none};
 ghost use Rattle.settlement.specs.Values.{site, entry};
 ghost use Rattle.values.specs.Told.{Said};
 ghost use Rattle.payment.specs.Walks.{means_of};
@@ -13,100 +12,78 @@ ghost use Rattle.terms.specs.Endings.{fresh_means, Debited};
 
 use names::{Message, Path, Term};
 use payment::Means;
-use report::Text;
+use report::Place;
+use values::Entries;
 
-// The means with mandate and creditor identifier, and where the next entry goes.
+// The means with mandate and creditor identifier.
 #[derive(Clone, Copy)]
 pub(crate) struct Debit {
     pub means: Means,
-    pub mandate: Text,
-    pub creditor: Text,
-    pub at: usize,
-}
-
-// Whether a text is absent.
-pub(crate) fn is_absent(t: Text) -> bool
-    ensures { result ≡ is_none (text_of t) }
-{
-    match t {
-        Text::Absent => true,
-        Text::At(_) => false,
-    }
+    pub mandate: Option<Place>,
+    pub creditor: Option<Place>,
 }
 
 // Says that a text is lost, if it is there.
-fn say_lost(entries: &mut [i64], at: usize, message: Message, path: Path, lost: Text) -> usize
-    ensures { Said (maybe [] (λ p. entry message (site path Term.None) none ∷ []) (text_of lost)) entries.old at entries.new result }
+fn say_lost(entries: &mut Entries, message: Message, path: Path, lost: Option<Place>)
+    ensures { Said (maybe [] (λ p. entry message (site path Term.None) none ∷ []) (text_of lost)) entries.old entries.new }
 {
     match lost {
-        Text::Absent => at,
-        Text::At(_) => values::say(
-            entries,
-            at,
-            message,
-            values::site(path, Term::None),
-            Text::Absent,
-        ),
+        None => {}
+        Some(_) => entries.say(message, values::site(path, Term::None), None),
     }
 }
 
 // Mandate and creditor identifier beside a card or transfers: both are lost, and said.
-fn besides(entries: &mut [i64], at: usize, means: Means, mandate: Text, creditor: Text) -> Debit
-    ensures { Debited (reading.besides (means_of means) (text_of mandate) (text_of creditor)) entries.old at result entries.new }
+fn besides(
+    entries: &mut Entries,
+    means: Means,
+    mandate: Option<Place>,
+    creditor: Option<Place>,
+) -> Debit
+    ensures { Debited (reading.besides (means_of means) (text_of mandate) (text_of creditor)) entries.old result entries.new }
 {
     let path = Path::PaymentTermsDirectDebitMandate;
-    let first = say_lost(entries, at, Message::MandateBesideOther, path, mandate);
-    let other = Path::SettlementCreditorReference;
+    say_lost(entries, Message::MandateBesideOther, path, mandate);
+    let path = Path::SettlementCreditorReference;
+    say_lost(entries, Message::CreditorBesideOther, path, creditor);
     Debit {
         means,
-        mandate: Text::Absent,
-        creditor: Text::Absent,
-        at: say_lost(
-            entries,
-            first,
-            Message::CreditorBesideOther,
-            other,
-            creditor,
-        ),
+        mandate: None,
+        creditor: None,
     }
 }
 
 // Where no means are held, a mandate or a creditor identifier makes a direct debit.
-fn debit_of(mandate: Text, creditor: Text) -> Means
+fn debit_of(mandate: Option<Place>, creditor: Option<Place>) -> Means
     ensures { means_of result ≡ fresh_means (text_of mandate) (text_of creditor) }
 {
-    if is_absent(mandate) {
-        if is_absent(creditor) {
-            return Means::Unset;
-        }
+    if mandate.is_none() && creditor.is_none() {
+        return Means::Unset;
     }
-    Means::Debit(Text::Absent)
+    Means::Debit(None)
 }
 
 // What becomes of the means, the mandate and the creditor identifier.
 pub(crate) fn debited(
-    entries: &mut [i64],
-    at: usize,
+    entries: &mut Entries,
     means: Means,
-    mandate: Text,
-    creditor: Text,
+    mandate: Option<Place>,
+    creditor: Option<Place>,
 ) -> Debit
-    ensures { Debited (reading.debited (means_of means) (text_of mandate) (text_of creditor)) entries.old at result entries.new }
+    ensures { Debited (reading.debited (means_of means) (text_of mandate) (text_of creditor)) entries.old result entries.new }
 {
     match means {
         Means::Unset => Debit {
             means: debit_of(mandate, creditor),
             mandate,
             creditor,
-            at,
         },
         Means::Debit(account) => Debit {
             means: Means::Debit(account),
             mandate,
             creditor,
-            at,
         },
-        Means::Card(card) => besides(entries, at, Means::Card(card), mandate, creditor),
-        Means::Transfers => besides(entries, at, Means::Transfers, mandate, creditor),
+        Means::Card(card) => besides(entries, Means::Card(card), mandate, creditor),
+        Means::Transfers => besides(entries, Means::Transfers, mandate, creditor),
     }
 }

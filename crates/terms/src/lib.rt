@@ -9,5 +9,5 @@ mod debit;
 mod finishing;
 mod terms;
 
-pub use finishing::{Finished, finish};
+pub use finishing::finish;
 pub use terms::{Terms, blank_terms};

@@ -6,32 +6,31 @@ ghost use Rattle.totals.specs.Reading.{totals_of};
 ghost use Rattle.terms.specs.Terms.{terms_of};
 
 use amount::InvoiceAmount;
-use groups::PointCode;
+use groups::{Payee, Period};
 use payment::Means;
-use report::{Amount, Day, Text};
-use steps::{MaybePayee, MaybePeriod};
+use report::Place;
 use totals::{Sums, Totals};
 
 // BT-5 to BT-9, BT-19 and BT-20, BG-10, BG-14, whether there is BG-16, BT-81 to BT-83, BG-18 or
 // BG-19, BT-89 and BT-90, and BG-22.
 #[derive(Clone, Copy)]
 pub struct Terms {
-    pub bt5: Text,
-    pub bt6: Text,
-    pub bt7: Day,
-    pub bt8: PointCode,
-    pub bt9: Day,
-    pub bt19: Text,
-    pub bt20: Text,
-    pub payee: MaybePayee,
-    pub period: MaybePeriod,
+    pub bt5: Option<Place>,
+    pub bt6: Option<Place>,
+    pub bt7: Option<u32>,
+    pub bt8: Option<u32>,
+    pub bt9: Option<u32>,
+    pub bt19: Option<Place>,
+    pub bt20: Option<Place>,
+    pub payee: Option<Payee>,
+    pub period: Option<Period>,
     pub paid: bool,
-    pub bt81: Text,
-    pub bt82: Text,
-    pub bt83: Text,
+    pub bt81: Option<Place>,
+    pub bt82: Option<Place>,
+    pub bt83: Option<Place>,
     pub means: Means,
-    pub bt89: Text,
-    pub bt90: Text,
+    pub bt89: Option<Place>,
+    pub bt90: Option<Place>,
     pub totals: Totals,
 }
 
@@ -45,12 +44,12 @@ pub(crate) fn no_totals() -> Totals
         gross: InvoiceAmount::zero(),
         due: InvoiceAmount::zero(),
         sums: Sums {
-            allowance: Amount::Absent,
-            charge: Amount::Absent,
-            vat: Amount::Absent,
-            accounting: Amount::Absent,
-            paid: Amount::Absent,
-            rounding: Amount::Absent,
+            allowance: None,
+            charge: None,
+            vat: None,
+            accounting: None,
+            paid: None,
+            rounding: None,
         },
     }
 }
@@ -60,22 +59,22 @@ pub fn blank_terms() -> Terms
     ensures { terms_of result ≡ blank_terms }
 {
     Terms {
-        bt5: Text::Absent,
-        bt6: Text::Absent,
-        bt7: Day::Absent,
-        bt8: PointCode::Absent,
-        bt9: Day::Absent,
-        bt19: Text::Absent,
-        bt20: Text::Absent,
-        payee: MaybePayee::Absent,
-        period: MaybePeriod::Absent,
+        bt5: None,
+        bt6: None,
+        bt7: None,
+        bt8: None,
+        bt9: None,
+        bt19: None,
+        bt20: None,
+        payee: None,
+        period: None,
         paid: false,
-        bt81: Text::Absent,
-        bt82: Text::Absent,
-        bt83: Text::Absent,
+        bt81: None,
+        bt82: None,
+        bt83: None,
         means: Means::Unset,
-        bt89: Text::Absent,
-        bt90: Text::Absent,
+        bt89: None,
+        bt90: None,
         totals: no_totals(),
     }
 }

@@ -10,12 +10,11 @@ use borrow.Author.Tests.{not-true, not-false, le-leb, lt-leb}
 use lib.Dec.{leb}
 use lib.ListN.{length, get_or, drop, drop_of_length-le}
 use lib.Seq.{drop-cons}
-use Rattle.text.specs.declared.digit.Numeral.{Numeral}
-use Rattle.text.specs.declared.digit.Numeral.TheVariants.{Number, Unfit}
 use Rattle.text.specs.Digits.{digit, all_digits, number, numeral_from, numeral_of}
 use Rattle.text.specs.Range.{within}
 use Rattle.text.proofs.Bools.{both}
-use Rattle.text.proofs.Ranges.{within_range, within_yes, within_below, within_above}
+use Rattle.text.proofs.Ranges.{within_range}
+use Rattle.std.specs.Prelude.{Option, None, Some}
 
 pub digit_range : (b : ℕ) → digit b ≡ true → (48 ≤ b) × (b ≤ 57)
 unfolding digit
@@ -51,7 +50,7 @@ number_least (b ∷ s) n = omega (arith, number_least s (10 * n + (b - 48)))
 -- the loop of `written`, at i: a digit, another byte, a number that is too large; and after it
 module _ (s : List ℕ) (n i : ℕ) (e : numeral_from 0 s ≡ numeral_from n (drop i s)) where
   module _ (d : Bool) (h : i < length s) (q : d ≡ digit (get_or s i 0)) where
-    pub digit_other : not d ≡ true → Unfit ≡ numeral_from 0 s
+    pub digit_other : not d ≡ true → None ≡ numeral_from 0 s
     unfolding numeral_from all_digits
     digit_other p = sym (e ∙ rw (drop-cons s i 0, ← q, not-true d p))
 
@@ -60,54 +59,40 @@ module _ (s : List ℕ) (n i : ℕ) (e : numeral_from 0 s ≡ numeral_from n (dr
       unfolding numeral_from all_digits number
       digit_on = e ∙ rw (add-one, drop-cons s i 0, ← q, not-false d p, r)
 
-      pub digit_over : 4294967295 < m → Unfit ≡ numeral_from 0 s
+      pub digit_over : 4294967295 < m → None ≡ numeral_from 0 s
       unfolding numeral_from
       digit_over l = sym (digit_on ∙ rw (lt-leb (number m (drop (i + 1) s)) 4294967295 (omega (arith, number_least (drop (i + 1) s) m))) (go (all_digits (drop (i + 1) s))))
         where
-          go : (b : Bool) → cond (b && false) (Number (number m (drop (i + 1) s))) Unfit ≡ Unfit
+          go : (b : Bool) → cond (b && false) (Some (number m (drop (i + 1) s))) None ≡ None
           go true = refl
           go false = refl
 
-  pub digit_end : length s ≤ i → n ≤ 4294967295 → Number n ≡ numeral_from 0 s
+  pub digit_end : length s ≤ i → n ≤ 4294967295 → Some n ≡ numeral_from 0 s
   unfolding numeral_from all_digits number
   digit_end h l = sym (e ∙ rw (drop_of_length-le s h, le-leb n 4294967295 l))
 
--- the code of `numeral_of`: no byte, too many, and some
-module _ (most : ℕ) (s : List ℕ) where
-  pub numeral_empty : length s ≡ 0 → Unfit ≡ numeral_of most s
-  unfolding numeral_of
-  numeral_empty e = rw (within_below (length s) 1 most (omega arith))
-
-  pub numeral_long : most < length s → Unfit ≡ numeral_of most s
-  unfolding numeral_of
-  numeral_long h = rw (within_above (length s) 1 most h)
-
-  pub numeral_some : (length s ≡ 0 → ⊥) → length s ≤ most → (x : Numeral) → x ≡ numeral_from 0 s → x ≡ numeral_of most s
-  unfolding numeral_of
-  numeral_some n h x e = e ∙ rw (within_yes (length s) 1 most (omega arith) h)
-
 -- what an answer for at most nine digits, which have 32 bits, says of a text
-module _ (most : ℕ) (s : List ℕ) {x : Numeral} (e : x ≡ numeral_of most s) where
-  pub is_numeral : {n : ℕ} → x ≡ Number n → ((within (length s) 1 most && all_digits s) ≡ true) × (number 0 s ≡ n)
+module _ (most : ℕ) (s : List ℕ) {x : Option ℕ} (e : x ≡ numeral_of most s) where
+  pub is_numeral : {n : ℕ} → x ≡ Some n → ((within (length s) 1 most && all_digits s) ≡ true) × (number 0 s ≡ n)
   unfolding numeral_of numeral_from
   is_numeral {n} q = go (within (length s) 1 most) (all_digits s) (leb (number 0 s) 4294967295) (sym e ∙ q)
     where
-      go : (w a l : Bool) → cond w (cond (a && l) (Number (number 0 s)) Unfit) Unfit ≡ Number n → ((w && a) ≡ true) × (number 0 s ≡ n)
+      go : (w a l : Bool) → cond w (cond (a && l) (Some (number 0 s)) None) None ≡ Some n → ((w && a) ≡ true) × (number 0 s ≡ n)
       go true true true f = (refl, cc)
       go true true false f = (cc, cc)
       go true false l f = (cc, cc)
       go false a l f = (cc, cc)
 
-  pub no_numeral : most ≤ 9 → x ≡ Unfit → (within (length s) 1 most && all_digits s) ≡ false
+  pub no_numeral : most ≤ 9 → x ≡ None → (within (length s) 1 most && all_digits s) ≡ false
   unfolding numeral_of numeral_from
   no_numeral h q = go (within (length s) 1 most) refl (all_digits s) refl (sym e ∙ q)
     where
-      go : (w : Bool) → within (length s) 1 most ≡ w → (a : Bool) → all_digits s ≡ a → cond w (cond (a && leb (number 0 s) 4294967295) (Number (number 0 s)) Unfit) Unfit ≡ Unfit → (w && a) ≡ false
+      go : (w : Bool) → within (length s) 1 most ≡ w → (a : Bool) → all_digits s ≡ a → cond w (cond (a && leb (number 0 s) 4294967295) (Some (number 0 s)) None) None ≡ None → (w && a) ≡ false
       go true p true r f =
           let l = (within_range (length s) 1 most p).1 in
           let b : 10 ^ length s ≤ 10 ^ 9 = pow-le-pow_right {n = 10} (omega arith) {i = length s} {j = 9} (omega arith) in
           let k = le-leb (number 0 s) 4294967295 (omega (arith, number_below s 0 r)) in
-          let f' : Number (number 0 s) ≡ Unfit = rw k at f in
+          let f' : Some (number 0 s) ≡ None = rw k at f in
           cc
       go true p false r f = refl
       go false p a r f = refl

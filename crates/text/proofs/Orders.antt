@@ -1,16 +1,18 @@
--- Laws of equality and order of texts, and the turns of the loops that compare them.
+-- Laws of equality and order of texts.
 use mathlib.Core.Path.{◌≡◌, refl, sym, ◌∙◌, ap}
-use mathlib.Core.Bool.{Bool, true, false, ◌&&◌, and-true, and-false}
+use mathlib.Core.Bool.{Bool, true, false}
 use mathlib.Core.List.{List, [], ◌∷◌}
-use Prim.Native.Nat.{Ordering, ℕ, ◌+◌, ◌≤◌, ◌<◌}
+use Prim.Native.Nat.{Ordering, ℕ, ◌<◌}
 use native.Mathlib.Omega.{arith}
-use native.Mathlib.Numerals.{add-one}
 use native.Mathlib.Decide.{dec_lt}
 use borrow.Author.Tests.{lt-ltb, le-ltb, eqb-true, eq-eqb, ne_eqb}
 use lib.Dec.{eqb}
-use lib.ListN.{length, get_or, drop, drop_of_length-le}
-use lib.Seq.{drop-cons}
-use Rattle.text.specs.Order.{equal, order, opposite}
+use lib.ListN.{length}
+use Rattle.std.specs.declared.cmp.Ordering as Code
+use Rattle.std.specs.Cmp.Lexicographic.{pointwise, slice_cmp}
+use Rattle.std.specs.Ordering.{nat_cmp, ordering_then}
+use Rattle.std.specs.Prelude.{nat_eq}
+use Rattle.text.specs.Order.{equal, order, opposite, ordering}
 use Rattle.text.proofs.Bools.{both}
 
 -- `equal` is equality
@@ -38,18 +40,9 @@ differ f s t n = go (equal s t) refl
     go true e = absurd (n (ap f (equal_is s t e)))
     go false e = refl
 
--- texts of different lengths, of different first bytes, of none
+-- texts of different lengths
 pub equal_lengths : (s t : List ℕ) → (length s ≡ length t → ⊥) → false ≡ equal s t
 equal_lengths s t n = differ length s t n
-
-pub equal_firsts : (s t : List ℕ) → (get_or s 0 0 ≡ get_or t 0 0 → ⊥) → false ≡ equal s t
-equal_firsts s t n = differ (λ (l : List ℕ). get_or l 0 0) s t n
-
-pub equal_none : (s t : List ℕ) → length s ≡ length t → length s ≡ 0 → true ≡ equal s t
-unfolding equal
-equal_none [] [] e h = refl
-equal_none [] (y ∷ t) e h = absurd (omega arith)
-equal_none (x ∷ s) t e h = absurd (omega arith)
 
 -- `order` is a total order, and its equality is that of lists
 pub order_refl : (s : List ℕ) → order s s ≡ Ordering.eq
@@ -134,43 +127,25 @@ order_trans (x ∷ s) (y ∷ t) (z ∷ u) e f = go (heads x y) (heads y z) (orde
     go (less h) (more k) r = gt≢lt (sym (greater_first y z t u k) ∙ f)
     go (alike p) (more k) r = gt≢lt (sym (greater_first y z t u k) ∙ f)
 
--- the loop of `same_each`, at i, where all were alike so far or not: alike, different, ended
-module _ (s t : List ℕ) (i : ℕ) (p : Bool) (e : equal s t ≡ (p && equal (drop i s) (drop i t))) (l : length s ≡ length t) where
-  pub equal_on : i < length s → get_or s i 0 ≡ get_or t i 0 → {q : Bool} → q ≡ p → equal s t ≡ (q && equal (drop (i + 1) s) (drop (i + 1) t))
-  unfolding equal
-  equal_on h g u = e ∙ rw (u, add-one, drop-cons s i 0, drop-cons t i 0 (omega arith), eq-eqb _ _ g)
+-- `equal` is the library's test, and `order` its order
+pub equal_pointwise : (s t : List ℕ) → pointwise nat_eq s t ≡ equal s t
+unfolding equal
+equal_pointwise [] [] = refl
+equal_pointwise [] (y ∷ t) = refl
+equal_pointwise (x ∷ s) [] = refl
+equal_pointwise (x ∷ s) (y ∷ t) = rw (equal_pointwise s t)
 
-  pub equal_off : i < length s → (get_or s i 0 ≡ get_or t i 0 → ⊥) → {q : Bool} → q ≡ false → equal s t ≡ (q && equal (drop (i + 1) s) (drop (i + 1) t))
-  unfolding equal
-  equal_off h n u = e ∙ rw (u, drop-cons s i 0, drop-cons t i 0 (omega arith), ne_eqb _ _ n) (and-false p)
+slices : (s t : List ℕ) → ordering (slice_cmp nat_cmp s t) ≡ order s t
+unfolding order
+slices [] [] = refl
+slices [] (y ∷ t) = refl
+slices (x ∷ s) [] = refl
+slices (x ∷ s) (y ∷ t) = go (heads x y) (slices s t)
+  where
+    go : Heads x y → ordering (slice_cmp nat_cmp s t) ≡ order s t → ordering (ordering_then (nat_cmp x y) (slice_cmp nat_cmp s t)) ≡ order (x ∷ s) (y ∷ t)
+    go (less h) r = rw (lt-ltb x y h)
+    go (alike q) r = rw (le-ltb x y (omega arith), le-ltb y x (omega arith), eq-eqb x y q) r
+    go (more h) r = rw (le-ltb x y (omega arith), lt-ltb y x h, ne_eqb x y (λ e. omega arith))
 
-  pub equal_end : length s ≤ i → p ≡ equal s t
-  unfolding equal
-  equal_end h = sym (e ∙ rw (drop_of_length-le s h, drop_of_length-le t {i = i} (omega arith)) (and-true p))
-
--- the loop of `compare`, at i: the second ended, the first or the second is less, alike; and after it
-module _ (s t : List ℕ) (i : ℕ) (e : order s t ≡ order (drop i s) (drop i t)) where
-  pub order_longer : i < length s → length t ≤ i → Ordering.gt ≡ order s t
-  unfolding order
-  order_longer h h' = sym (e ∙ rw (drop-cons s i 0, drop_of_length-le t h'))
-
-  pub order_shorter : i ≤ length s → length s ≤ i → length s < length t → Ordering.lt ≡ order s t
-  unfolding order
-  order_shorter b h l = sym (e ∙ rw (drop_of_length-le s h, drop-cons t i 0 (omega arith)))
-
-  pub order_end : i ≤ length t → length s ≤ i → length t ≤ length s → Ordering.eq ≡ order s t
-  unfolding order
-  order_end b h l = sym (e ∙ rw (drop_of_length-le s h, drop_of_length-le t {i = i} (omega arith)))
-
-  module _ (h : i < length s) (h' : i < length t) where
-    pub order_less : get_or s i 0 < get_or t i 0 → Ordering.lt ≡ order s t
-    unfolding order
-    order_less l = sym (e ∙ rw (drop-cons s i 0, drop-cons t i 0, lt-ltb _ _ l))
-
-    pub order_greater : get_or t i 0 < get_or s i 0 → Ordering.gt ≡ order s t
-    unfolding order
-    order_greater l = sym (e ∙ rw (drop-cons s i 0, drop-cons t i 0, le-ltb (get_or s i 0) (get_or t i 0) (omega arith), lt-ltb _ _ l))
-
-    pub order_on : get_or t i 0 ≤ get_or s i 0 → get_or s i 0 ≤ get_or t i 0 → order s t ≡ order (drop (i + 1) s) (drop (i + 1) t)
-    unfolding order
-    order_on l l' = e ∙ rw (add-one, drop-cons s i 0, drop-cons t i 0, le-ltb (get_or s i 0) (get_or t i 0) l, le-ltb (get_or t i 0) (get_or s i 0) l')
+pub order_slices : (s t : List ℕ) (o : Code.Ordering) → o ≡ slice_cmp nat_cmp s t → ordering o ≡ order s t
+order_slices s t o e = ap ordering e ∙ slices s t

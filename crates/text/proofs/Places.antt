@@ -11,9 +11,12 @@ use borrow.Author.Tests.{eq-eqb, eqb-true}
 use lib.Dec.{eqb}
 use lib.ListN.{length, get_or, take, drop, length-drop, length-map, drop_of_length-le, get_or-eq_default}
 use lib.Seq.{drop-cons, drop-drop}
+use denote.Ref.{Bor}
+use Rattle.std.specs.Prelude.{find, Option, Some}
+use Rattle.std.specs.Option.{unwrap_or, option_map}
 use Rattle.text.specs.Order.{equal}
 use Rattle.text.specs.Span.{clipped}
-use Rattle.text.specs.Place.{names_in, all_names, place, meant}
+use Rattle.text.specs.Place.{names_in, all_names, place, meaning, meant}
 use Rattle.text.specs.Utf8.{bytes}
 use Rattle.text.proofs.Bools.{not_both}
 use Rattle.text.proofs.Orders.{equal_is, equal_refl}
@@ -114,3 +117,24 @@ module _ {A : Type 0} (a : A) where
 
     pub meant_none : Apart (length cs) n → a ≡ meant a cs s
     meant_none h = sym (get_or-eq_default (map (λ c. c.1) cs) a (rw length-map (apart_past (length cs) n h))) ∙ meant_at n refl
+
+-- the same by a list of the code, whose meanings f gives
+module _ {A B : Type 0} (f : B → A) (b : B) (s : List ℕ) where
+  meant_each : (T : List (Bor (List ℕ) × B)) (cs : List (String × A)) → map {B = List ℕ × A} (λ w. (w.0.now, f w.1)) T ≡ map {B = List ℕ × A} (λ c. (bytes c.0, c.1)) cs → f (unwrap_or (option_map (λ w. w.1) (find (λ w. equal s w.0.now) T)) b) ≡ meant (f b) cs s
+  unfolding meant
+  meant_each [] [] e = refl
+  meant_each [] (c ∷ cs) e = cc
+  meant_each (w ∷ T) [] e = cc
+  meant_each (w ∷ T) (c ∷ cs) e =
+      let d : ◌≡◌ {A = List ℕ × A} (w.0.now, f w.1) (bytes c.0, c.1) = cc in
+      let p : w.0.now ≡ bytes c.0 = ap (λ x. x.0) d in
+      let q : f w.1 ≡ c.1 = ap (λ x. x.1) d in
+      rw (← p, ← q) (go (equal s w.0.now) (meant_each T cs cc))
+    where
+      go : (t : Bool) → f (unwrap_or (option_map (λ w. w.1) (find (λ w. equal s w.0.now) T)) b) ≡ meant (f b) cs s → f (unwrap_or (option_map (λ w. w.1) (cond t (Some w) (find (λ w. equal s w.0.now) T))) b) ≡ cond t (f w.1) (meant (f b) cs s)
+      go true h = refl
+      go false h = h
+
+  pub meant_by : (T : List (Bor (List ℕ) × B)) (cs : List (String × A)) {o : Option B} {r : B} → r ≡ unwrap_or o b → o ≡ meaning T s → map {B = List ℕ × A} (λ w. (w.0.now, f w.1)) T ≡ map {B = List ℕ × A} (λ c. (bytes c.0, c.1)) cs → f r ≡ meant (f b) cs s
+  unfolding meaning
+  meant_by T cs q p e = ap f (q ∙ ap (λ o. unwrap_or o b) p) ∙ meant_each T cs e

@@ -6,7 +6,12 @@ use native.Mathlib.Omega.{arith}
 use native.Mathlib.Decide.{dec_le}
 use borrow.Author.Tests.{le-leb, lt-leb}
 use lib.ListN.{length, get_or, take, drop, length-take, length-drop, drop_of_length-le, get_or-eq_default}
-use lib.Seq.{take_all, take-nil}
+use lib.Seq.{take_all}
+use mathlib.Core.Logic.{inl, inr}
+use denote.Ref.{Bor}
+use Rattle.std.specs.Prelude.{Option, None, Some}
+use Rattle.std.specs.Option.{unwrap_or}
+use Rattle.std.specs.Slice.{IsGetRangeResult}
 use Rattle.text.specs.Span.{part_of, clipped}
 
 -- the part `&s[i..]`, as a callee is handed it
@@ -17,23 +22,16 @@ rest s i = take_all (length s - i) (drop i s) (omega (arith, length-drop i s))
 pub past : (s : List ℕ) (i : ℕ) → length s ≤ i → 0 ≡ get_or s i 0
 past s i h = sym (get_or-eq_default s 0 h)
 
+-- the bytes from a place on, and no more than so many of them, as `get` gives them
+pub rest_of : (s : List ℕ) (start : ℕ) (r : Option (Bor (List ℕ))) (d : Bor (List ℕ)) → d.now ≡ [] → IsGetRangeResult s start (length s) r → (unwrap_or r d).now ≡ drop start s
+rest_of s start None d e h = elim h.0 [ inl l ↦ e ∙ sym (drop_of_length-le s {i = start} (omega arith)) | inr l ↦ absurd (omega arith) ]
+rest_of s start (Some x) d e h = h.0.2 ∙ rest s start
+
+pub front_of : (t : List ℕ) (len : ℕ) (r : Option (Bor (List ℕ))) (d : Bor (List ℕ)) → d.now ≡ t → IsGetRangeResult t 0 len r → (unwrap_or r d).now ≡ take len t
+front_of t len None d e h = elim h.0 [ inl l ↦ absurd (omega arith) | inr l ↦ e ∙ sym (take_all len t (omega arith)) ]
+front_of t len (Some x) d e h = let z : len - 0 ≡ len = omega arith in h.0.2 ∙ rw z
+
 module _ (s : List ℕ) (start len : ℕ) where
-  pub clip_far : length s ≤ start → [] ≡ clipped s start len
-  unfolding clipped
-  clip_far h = rw (drop_of_length-le s h) (sym (take-nil len))
-
-  pub clip_long : length s - start ≤ len → take (length s - start) (drop start s) ≡ clipped s start len
-  unfolding clipped
-  clip_long h =
-      let l = length-drop start s in
-      take_all (length s - start) (drop start s) (omega (arith, l)) ∙ sym (take_all len (drop start s) (omega (arith, l)))
-
-  pub clip_in : take (start + len - start) (drop start s) ≡ clipped s start len
-  unfolding clipped
-  clip_in =
-      let e : start + len - start ≡ len = omega arith in
-      rw e
-
   -- inside the text both notions are the same
   pub part_clipped : start + len ≤ length s → part_of s start len ≡ clipped s start len
   unfolding part_of

@@ -1,8 +1,7 @@
 -- Decimal digits, and the number that they write.
 use Rattle.std.specs.Prelude.{Bool, true, cond, ◌&&◌, List, [], ◌∷◌, ℕ, ◌+◌, ◌*◌, ◌-◌, leb, length}
-use Rattle.text.specs.declared.digit.Numeral.{Numeral}
-use Rattle.text.specs.declared.digit.Numeral.TheVariants.{Number, Unfit}
 use Rattle.text.specs.Range.{within}
+use Rattle.std.specs.Prelude.{Option, None, Some}
 
 -- #x30-#x39 (XML Schema part 2, 3.2.3.1)
 unfoldable pub digit : ℕ → Bool
@@ -19,9 +18,9 @@ number n [] = n
 number n (b ∷ s) = number (10 * n + (b - 0x30)) s
 
 -- the number of 32 bits that digits write after n
-unfoldable pub numeral_from : ℕ → List ℕ → Numeral
-numeral_from n s = cond (all_digits s && leb (number n s) 4294967295) (Number (number n s)) Unfit
+unfoldable pub numeral_from : ℕ → List ℕ → Option ℕ
+numeral_from n s = cond (all_digits s && leb (number n s) 4294967295) (Some (number n s)) None
 
 -- the number of 32 bits that one digit to `most` digits write
-unfoldable pub numeral_of : ℕ → List ℕ → Numeral
-numeral_of most s = cond (within (length s) 1 most) (numeral_from 0 s) Unfit
+unfoldable pub numeral_of : ℕ → List ℕ → Option ℕ
+numeral_of most s = cond (within (length s) 1 most) (numeral_from 0 s) None

@@ -1,4 +1,5 @@
 pub mod Answer
+pub mod Options
 pub mod Range
 pub mod Digits
 pub mod Span

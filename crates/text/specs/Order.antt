@@ -1,8 +1,8 @@
 -- Texts in the order of their bytes, as Rust orders `str` and `[u8]`.
 use Rattle.std.specs.Prelude.{Bool, true, false, cond, ◌&&◌, List, [], ◌∷◌, ltb, eqb}
 use Prim.Native.Nat.{ℕ, Ordering}
-use Rattle.text.specs.declared.order.Ordering as Code
-use Rattle.text.specs.declared.order.Ordering.TheVariants.{Less, Equal, Greater}
+use Rattle.std.specs.declared.cmp.Ordering as Code
+use Rattle.std.specs.declared.cmp.Ordering.TheVariants.{Less, Equal, Greater}
 
 -- the same bytes
 unfoldable pub equal : List ℕ → List ℕ → Bool

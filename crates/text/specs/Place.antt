@@ -1,5 +1,7 @@
 -- Names in a row, each after its length, where a name stands among them, and what it stands for.
-use Rattle.std.specs.Prelude.{cond, List, [], ◌∷◌, ℕ, zero, suc, length, take, drop}
+use Rattle.std.specs.Prelude.{cond, List, [], ◌∷◌, ℕ, zero, suc, length, take, drop, find, Option}
+use Rattle.std.specs.Option.{option_map}
+use denote.Ref.{Bor}
 use Prim.Native.String.{String}
 use Rattle.text.specs.Order.{equal}
 use Rattle.text.specs.Utf8.{bytes}
@@ -18,6 +20,10 @@ all_names w = names_in (length w) w
 unfoldable pub place : List (List ℕ) → List ℕ → ℕ
 place [] s = 0
 place (w ∷ ws) s = cond (equal s w) 0 (suc (place ws s))
+
+-- what a name stands for in a list that is lent, where the list has it
+unfoldable pub meaning : {A : Type 0} → List (Bor (List ℕ) × A) → List ℕ → Option A
+meaning names s = option_map (λ w. w.1) (find (λ w. equal s w.0.now) names)
 
 -- what a name stands for in a list, and a where the list does not have it
 unfoldable pub meant : {A : Type 0} → A → List (String × A) → List ℕ → A

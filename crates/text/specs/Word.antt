@@ -1,8 +1,7 @@
 -- Bytes of a text as one number.
-use Rattle.std.specs.Prelude.{List, ℕ, ◌+◌, ◌*◌, get_or}
+use Rattle.std.specs.Int.{w64, from_le_bytes}
+use Rattle.std.specs.Prelude.{List, ℕ, take, drop}
 
 -- eight bytes from i on, the first the least
 abbrev pub word_at : List ℕ → ℕ → ℕ
-word_at s i =
-    ((get_or s i 0 + 256 * get_or s (i + 1) 0) + 65536 * (get_or s (i + 2) 0 + 256 * get_or s (i + 3) 0)) +
-    4294967296 * ((get_or s (i + 4) 0 + 256 * get_or s (i + 5) 0) + 65536 * (get_or s (i + 6) 0 + 256 * get_or s (i + 7) 0))
+word_at s i = from_le_bytes w64 (take 8 (drop i s))

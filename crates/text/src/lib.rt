@@ -12,9 +12,9 @@ mod range;
 mod span;
 mod word;
 
-pub use digit::{Numeral, is_digit, numeral_of};
-pub use order::{Ordering, compare, same};
-pub use place::place_of;
+pub use digit::{is_digit, numeral_of};
+pub use order::{compare, same};
+pub use place::{meaning_of, place_of, position_of};
 pub use range::is_within;
 pub use span::{Span, clip, part};
 pub use word::same_words;

@@ -13,14 +13,8 @@ pub struct Span {
 pub fn clip(s: &[u8], start: usize, len: usize) -> &[u8]
     ensures { result.now ≡ clipped s.now start len }
 {
-    if s.len() <= start {
-        return &s[0..0];
-    }
-    if s.len() - start <= len {
-        return &s[start..];
-    }
-    let past = start + len;
-    &s[start..past]
+    let rest = s.get(start..).unwrap_or(&[]);
+    rest.get(..len).unwrap_or(rest)
 }
 
 // The len bytes of s from start on, and no bytes where they are not all in s.
@@ -29,7 +23,7 @@ pub fn part(s: &[u8], start: usize, len: usize) -> &[u8]
 {
     let there = clip(s, start, len);
     if there.len() < len {
-        return &s[0..0];
+        return &[];
     }
     there
 }

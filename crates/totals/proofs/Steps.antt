@@ -1,32 +1,42 @@
 -- Laws of one child of a summation, after what was read before it.
-use mathlib.Core.Path.{◌≡◌, refl}
+use mathlib.Core.Path.{◌≡◌, refl, sym, ap, ◌∙◌}
 use mathlib.Core.Bool.{Bool, true, false}
-use mathlib.Core.List.{List}
+use mathlib.Core.List.{List, [], ◌∷◌, ◌++◌, append-nil}
 use mathlib.Core.Option.{Option, none, some}
 use Prim.Native.Nat.{ℕ}
 use lib.IntN.{ℤ}
 use Rattle.text.specs.Utf8.{bytes}
 use Rattle.names.specs.declared.parent.Parent.TheVariants as Parent
 use Rattle.report.specs.Rows.{Place, Entry}
-use Rattle.report.specs.declared.cursor.Cursor.{Cursor}
+use Rattle.report.specs.declared.held.HeldRows.{HeldRows}
+use Rattle.report.proofs.Holding.{holds_none}
 use Rattle.settlement.specs.Document.{Doc}
 use Rattle.settlement.specs.Shapes.{Currencies}
-use Rattle.settlement.specs.Summation.{Summing, with_vat, is_currency, tax_in, tax_total_of, sum_of, summand, summing}
+use Rattle.settlement.specs.Summation.{Sum, required, allowance_total, charge_total, tax_total, rounding, prepaid, Summing, with_vat, is_currency, tax_in, tax_total_of, sum_of, summand, summing}
+use Rattle.settlement.specs.Summation as Def
 use Rattle.settlement.specs.Values.{Lent, attribute}
 use Rattle.values.specs.Told.{Said, Told}
-use Rattle.values.proofs.Telling.{said_then}
-use Rattle.unmapped.specs.Acted.{Acted}
-use Rattle.unmapped.specs.Noting.{noting, Noted}
-use Rattle.unmapped.proofs.Notings.{notings_more}
+use Rattle.values.specs.declared.saying.Entries.{Entries}
+use Rattle.values.proofs.Telling.{said_none}
+use Rattle.unmapped.specs.Acted.{Notes, Acted}
+use Rattle.unmapped.specs.declared.note.UnmappedRows.{UnmappedRows}
+use Rattle.unmapped.proofs.Notings.{notes_none}
 use Rattle.totals.specs.State.{sum_is}
-use Rattle.totals.specs.Reading.{taxes, made, taxing, taxed, said_by, first_of, Hears}
+use Rattle.totals.specs.Reading.{taxes, taxing, taxed, made, said_by, first_of, Hears}
 use Rattle.totals.specs.declared.firsts.Firsts.{Firsts}
 use Rattle.totals.specs.declared.sum.Optional.{Optional}
-use Rattle.totals.specs.declared.sum.Sum.{Sum}
+use Rattle.totals.specs.declared.sum.Sum as Code
+use Rattle.totals.specs.declared.sum.Sum.TheVariants as Kind
 
 -- a state with the BT-110 and BT-111 of another, behind which that says what it says
 abbrev pub beside : Summing Place → Summing Place → Summing Place
 beside m t = with_vat t.vat t.vat_accounting t.says m
+
+-- what a child made of a state, r, is what it made of that state's BT-110 and BT-111 alone, t, behind what the state had
+pub record Behind (m t r : Summing Place) : Type 0 where
+  pub taxes : taxes r ≡ taxes t
+  pub says : r.says ≡ m.says ++ t.says
+  pub strays : r.strays ≡ m.strays ++ t.strays
 
 module _ (L : Lent) (D : Doc ℕ Place) (cur : Currencies Place) where
   in_beside : (p q : Bool) (a : Option ℤ) (es : List (Entry Place)) (m : Summing Place) (id : Place) → is_currency D cur.bt6 id ≡ p → is_currency D cur.bt5 id ≡ q → tax_in D cur a es m id ≡ beside m (tax_in D cur a es (taxing (taxes m)) id)
@@ -44,28 +54,54 @@ module _ (L : Lent) (D : Doc ℕ Place) (cur : Currencies Place) where
   pub tax_beside : (m : Summing Place) (c : ℕ) → tax_total_of L D cur m c ≡ beside m (tax_total_of L D cur (taxing (taxes m)) c)
   tax_beside m c = total_beside _ m c refl
 
-module _ (L : Lent) (D : Doc ℕ Place) (cur : Currencies Place) (n c : ℕ) (m : Summing Place) {x : List ℕ} {p : Option ℤ × Option ℤ} {b at : Cursor} {h e₀ e u₀ u : List ℤ} (a : Acted (made taxes m) x p b at h h e₀ e u₀ u) where
+  -- and notes nothing
+  tax_strays : (p : Option ℤ × Option ℤ) (c : ℕ) → (tax_total_of L D cur (taxing p) c).strays ≡ []
+  unfolding with_vat
+  tax_strays p c = ap (λ (s : Summing Place). s.strays) (tax_beside (taxing p) c)
+
+  -- so does every child
+  module _ (n c : ℕ) (m : Summing Place) where
+    behind_of : (j : Sum) → Behind m (summand L D j cur n (taxing (taxes m)) c) (summand L D j cur n m c)
+    unfolding summand with_vat
+    behind_of required = record { taxes = refl; says = sym (append-nil m.says); strays = sym (append-nil m.strays) }
+    behind_of allowance_total = record { taxes = refl; says = refl; strays = sym (append-nil m.strays) }
+    behind_of charge_total = record { taxes = refl; says = refl; strays = sym (append-nil m.strays) }
+    behind_of tax_total =
+        let b = tax_beside m c in
+        record {
+          taxes = ap taxes b;
+          says = ap (λ (s : Summing Place). s.says) b;
+          strays = ap (λ (s : Summing Place). s.strays) b ∙ rw (tax_strays (taxes m) c, append-nil m.strays);
+        }
+    behind_of rounding = record { taxes = refl; says = refl; strays = sym (append-nil m.strays) }
+    behind_of prepaid = record { taxes = refl; says = refl; strays = sym (append-nil m.strays) }
+    behind_of Def.unread = record { taxes = refl; says = sym (append-nil m.says); strays = refl }
+
+    pub behind : Behind m (summing L D cur n (taxing (taxes m)) c) (summing L D cur n m c)
+    unfolding summing
+    behind = behind_of (sum_of D c)
+
+-- one child of a summation, beside BT-110 and BT-111 as read before it
+module _ (L : Lent) (D : Doc ℕ Place) (cur : Currencies Place) (n c : ℕ) (p : Option ℤ × Option ℤ) (x : List ℕ) (h : HeldRows) (e : Entries) (u : UnmappedRows) {j : Code.Sum} (k : sum_is j ≡ sum_of D c) where
   -- one that is read after all others
-  pub required_step : {j : Sum} → j ≡ Sum.Required → sum_is j ≡ sum_of D c → Acted (made taxes (summing L D cur n m c)) x p b at h h e₀ e u₀ u
+  pub required_step : j ≡ Kind.Required → Acted (made taxes (summing L D cur n (taxing p) c)) x p h h e e u u
   unfolding summing summand
-  required_step q k = rw (← k, q) a
+  required_step q = rw (← k, q) (record { same = refl; held = holds_none h; said = said_none e; noted = notes_none x u })
 
   -- an optional amount
-  pub optional_step : {f : Firsts} (q : Optional) {j : Sum} {e' : List ℤ} {r : ℕ} → j ≡ Sum.Optional q → sum_is j ≡ sum_of D c → Hears L.mode L.currency D n f → Said (said_by (first_of f q)).1 e at.entries e' r → Acted (made taxes (summing L D cur n m c)) x p b (record { held = at.held; entries = r; unmapped = at.unmapped }) h h e₀ e' u₀ u
+  pub optional_step : {f : Firsts} (q : Optional) {e' : Entries} → j ≡ Kind.Optional q → Hears L.mode L.currency D n f → Said (said_by (first_of f q)).1 e e' → Acted (made taxes (summing L D cur n (taxing p) c)) x p h h e e' u u
   unfolding summing summand
-  optional_step Optional.AllowanceTotal q k w s = rw (← k, q, ← w.allowance) (record { same = a.same; held = a.held; said = said_then a.said s; noted = a.noted })
-  optional_step Optional.ChargeTotal q k w s = rw (← k, q, ← w.charge) (record { same = a.same; held = a.held; said = said_then a.said s; noted = a.noted })
-  optional_step Optional.Rounding q k w s = rw (← k, q, ← w.rounding) (record { same = a.same; held = a.held; said = said_then a.said s; noted = a.noted })
-  optional_step Optional.Prepaid q k w s = rw (← k, q, ← w.paid) (record { same = a.same; held = a.held; said = said_then a.said s; noted = a.noted })
+  optional_step Optional.AllowanceTotal q w s = rw (← k, q, ← w.allowance) (record { same = refl; held = holds_none h; said = s; noted = notes_none x u })
+  optional_step Optional.ChargeTotal q w s = rw (← k, q, ← w.charge) (record { same = refl; held = holds_none h; said = s; noted = notes_none x u })
+  optional_step Optional.Rounding q w s = rw (← k, q, ← w.rounding) (record { same = refl; held = holds_none h; said = s; noted = notes_none x u })
+  optional_step Optional.Prepaid q w s = rw (← k, q, ← w.paid) (record { same = refl; held = holds_none h; said = s; noted = notes_none x u })
 
   -- a tax total
-  pub tax_step : {j : Sum} {p' : Option ℤ × Option ℤ} {e' : List ℤ} {r : ℕ} → j ≡ Sum.TaxTotal → sum_is j ≡ sum_of D c → Told (taxed (tax_total_of L D cur (taxing p) c)) e at.entries p' e' r → Acted (made taxes (summing L D cur n m c)) x p' b (record { held = at.held; entries = r; unmapped = at.unmapped }) h h e₀ e' u₀ u
-  unfolding summing summand with_vat
-  tax_step q k s =
-      let s' = rw a.same at s in
-      rw (← k, q, tax_beside L D cur m c) (record { same = s'.same; held = a.held; said = said_then a.said s'.said; noted = a.noted })
+  pub tax_step : {p' : Option ℤ × Option ℤ} {e' : Entries} → j ≡ Kind.TaxTotal → Told (taxed (tax_total_of L D cur (taxing p) c)) e p' e' → Acted (made taxes (summing L D cur n (taxing p) c)) x p' h h e e' u u
+  unfolding summing summand
+  tax_step q s = rw (← k, q) (record { same = s.same; held = holds_none h; said = s.said; noted = rw (tax_strays L D cur p c) (notes_none x u) })
 
   -- one that is not mapped
-  pub unread_step : {j : Sum} {u' : List ℤ} {r : ℕ} → j ≡ Sum.Unread → sum_is j ≡ sum_of D c → Noted (noting x u at.unmapped (record { parent = Parent.MonetarySummation; name = D.name c })) u' r → Acted (made taxes (summing L D cur n m c)) x p b (record { held = at.held; entries = at.entries; unmapped = r }) h h e₀ e u₀ u'
+  pub unread_step : {u' : UnmappedRows} → j ≡ Kind.Unread → Notes x (record { parent = Parent.MonetarySummation; name = D.name c } ∷ []) u u' → Acted (made taxes (summing L D cur n (taxing p) c)) x p h h e e u u'
   unfolding summing summand
-  unread_step q k s = rw (← k, q) (record { same = a.same; held = a.held; said = a.said; noted = notings_more x u₀ b.unmapped m.strays _ a.noted s })
+  unread_step q s = rw (← k, q) (record { same = refl; held = holds_none h; said = said_none e; noted = s })

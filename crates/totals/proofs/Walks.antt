@@ -1,71 +1,71 @@
 -- Laws of the walk over a summation's children, and of the totals after it.
-use mathlib.Core.Path.{◌≡◌, refl, ap, subst}
-use mathlib.Core.Logic.{◌≢◌}
-use mathlib.Core.List.{List, foldl}
+use mathlib.Core.Path.{◌≡◌, refl, ap}
+use mathlib.Core.List.{List, [], ◌∷◌, foldl}
 use mathlib.Core.Option.{Option, none, some}
-use Prim.Native.Nat.{ℕ, ◌-◌, ◌/◌, ◌≤◌, ◌<◌}
+use Prim.Native.Nat.{ℕ}
 use lib.IntN.{ℤ}
-use lib.ListN.{length}
 use Rattle.text.specs.Utf8.{bytes}
 use Rattle.codes.specs.declared.rules.Rule.TheVariants as Rule
 use Rattle.names.specs.declared.path.Path.TheVariants as Path
 use Rattle.names.specs.declared.term.Term.TheVariants as Term
-use Rattle.links.specs.Links.{link, chain}
-use Rattle.links.proofs.Chains.{fold_start, fold_turn, fold_zero, fold_out}
 use Rattle.report.specs.Rows.{Place}
-use Rattle.report.specs.Encoding.{held_row}
-use Rattle.report.specs.declared.cursor.Cursor.{Cursor}
-use Rattle.report.proofs.RowsOf.{rows_none}
+use Rattle.report.specs.declared.held.HeldRows.{HeldRows}
+use Rattle.report.proofs.Holding.{holds_none}
 use Rattle.settlement.specs.Document.{Doc}
 use Rattle.settlement.specs.Shapes.{Totals, Currencies}
 use Rattle.settlement.specs.Summation.{Summing, summing, summed, totals}
 use Rattle.settlement.specs.Values.{Lent, site, first, required_amount}
-use Rattle.element.specs.LinkDoc.{link_doc}
 use Rattle.values.specs.Told.{Told}
+use Rattle.values.specs.declared.saying.Entries.{Entries}
 use Rattle.values.proofs.Telling.{said_none, said_then}
 use Rattle.unmapped.specs.Acted.{Acted}
-use Rattle.unmapped.proofs.Notings.{notings_none}
-use Rattle.totals.specs.Reading.{taxes_of, taxes, amounts, taxing, made, said_by, Hears}
+use Rattle.unmapped.specs.declared.note.UnmappedRows.{UnmappedRows}
+use Rattle.unmapped.proofs.Notings.{notes_none, notes_then}
+use Rattle.totals.specs.Reading.{taxes, amounts, taxing, made, said_by, Hears}
 use Rattle.totals.specs.declared.firsts.Firsts.{Firsts}
-use Rattle.totals.specs.declared.tax.Taxes.{Taxes}
 use Rattle.totals.proofs.Heard.{dues_summed}
+use Rattle.totals.proofs.Steps.{behind}
 
-module _ (L : Lent) (t x l : List ℕ) (cur : Currencies Place) (n : ℕ) (b : Cursor) (h e₀ u₀ : List ℤ) where
-  -- some children were read, which made a state; the rest is that of a chain
-  pub record Walked (left c : ℕ) (p : Taxes) (at : Cursor) (e u : List ℤ) : Type 0 where
-    pub state : Summing Place
-    pub rest : summed L (link_doc t x l) cur n ≡ foldl (summing L (link_doc t x l) cur n) state (chain l left c)
-    pub acted : Acted (made taxes state) x (taxes_of p) b at h h e₀ e u₀ u
+-- one child more
+acted_then :
+    (L : Lent) (D : Doc ℕ Place) (cur : Currencies Place) (n c : ℕ) (m : Summing Place) {p p' : Option ℤ × Option ℤ} {x : List ℕ} {h : HeldRows} {e₀ e e' : Entries} {u₀ u u' : UnmappedRows} →
+    Acted (made taxes m) x p h h e₀ e u₀ u →
+    Acted (made taxes (summing L D cur n (taxing p) c)) x p' h h e e' u u' →
+    Acted (made taxes (summing L D cur n m c)) x p' h h e₀ e' u₀ u'
+acted_then L D cur n c m {h = h} a s =
+    let b = behind L D cur n c m in
+    let t = rw a.same at s in
+    record {
+      same = rw b.taxes t.same;
+      held = holds_none h;
+      said = rw b.says (said_then a.said t.said);
+      noted = rw b.strays (notes_then a.noted t.noted);
+    }
 
-  pub walk_start : {p : Taxes} {c : ℕ} → taxes_of p ≡ (none, none) → c ≡ link l n 0 → Walked (length l / 3) c p b e₀ u₀
+-- with the children cs to go: those so far made a state, and the rest make of it what all children make
+pub record Walked (L : Lent) (D : Doc ℕ Place) (x : List ℕ) (cur : Currencies Place) (n : ℕ) (h : HeldRows) (e₀ : Entries) (u₀ : UnmappedRows) (cs : List ℕ) (p : Option ℤ × Option ℤ) (e : Entries) (u : UnmappedRows) : Type 0 where
+  pub state : Summing Place
+  pub rest : summed L D cur n ≡ foldl (summing L D cur n) state cs
+  pub acted : Acted (made taxes state) x p h h e₀ e u₀ u
+
+module _ {L : Lent} {D : Doc ℕ Place} {x : List ℕ} {cur : Currencies Place} {n : ℕ} {h : HeldRows} {e₀ : Entries} {u₀ : UnmappedRows} where
+  pub walk_start : {cs : List ℕ} → cs ≡ D.kids n → Walked L D x cur n h e₀ u₀ cs (none, none) e₀ u₀
   unfolding summed
-  walk_start {p} {c} z q =
-      record {
-        state = taxing (none, none);
-        rest = fold_start (summing L (link_doc t x l) cur n) l 0 n c (taxing (none, none)) q;
-        acted = record { same = z; held = rows_none held_row h b.held; said = said_none e₀ b.entries; noted = notings_none x u₀ b.unmapped };
-      }
+  walk_start q = record { state = taxing (none, none); rest = rw q; acted = record { same = refl; held = holds_none h; said = said_none e₀; noted = notes_none x u₀ } }
 
-  module _ {left c : ℕ} {p : Taxes} {at : Cursor} {e u : List ℤ} (w : Walked left c p at e u) where
-    -- one child more, however its reading and what came of it are told
+  module _ {cs : List ℕ} {p : Option ℤ × Option ℤ} {e : Entries} {u : UnmappedRows} (k : Walked L D x cur n h e₀ u₀ cs p e u) where
     pub walk_turn :
-        {p₁ p' : Taxes} {at₁ at' : Cursor} {e₁ e' u₁ u' : List ℤ} {d : ℕ} → 0 < left → c ≢ 0 →
-        ((m : Summing Place) → Acted (made taxes m) x (taxes_of p) b at h h e₀ e u₀ u → Acted (made taxes (summing L (link_doc t x l) cur n m c)) x (taxes_of p₁) b at₁ h h e₀ e₁ u₀ u₁) →
-        e' ≡ e₁ → u' ≡ u₁ → p' ≡ p₁ → at' ≡ at₁ → d ≡ link l c 2 → Walked (left - 1) d p' at' e' u'
-    walk_turn {d = d} k z step i j q r v =
-        rw (i, j, q, r) (record { state = summing L (link_doc t x l) cur n w.state c; rest = fold_turn (summing L (link_doc t x l) cur n) l _ w.state left c w.rest k z _ refl d v; acted = step w.state w.acted })
+        {c : ℕ} {ds : List ℕ} {p' : Option ℤ × Option ℤ} {e' : Entries} {u' : UnmappedRows} → cs ≡ c ∷ ds → Acted (made taxes (summing L D cur n (taxing p) c)) x p' h h e e' u u' →
+        Walked L D x cur n h e₀ u₀ ds p' e' u'
+    walk_turn {c} q s = record { state = summing L D cur n k.state c; rest = rw q at k.rest; acted = acted_then L D cur n c k.state k.acted s }
 
-    as_summed : {m : Summing Place} → w.state ≡ m → Acted (made taxes m) x (taxes_of p) b at h h e₀ e u₀ u
-    as_summed q = subst (λ (m : Summing Place). Acted (made taxes m) x (taxes_of p) b at h h e₀ e u₀ u) q w.acted
-
-    pub walk_zero : c ≡ 0 → Acted (made taxes (summed L (link_doc t x l) cur n)) x (taxes_of p) b at h h e₀ e u₀ u
-    walk_zero z = as_summed (fold_zero (summing L (link_doc t x l) cur n) l _ w.state left c w.rest z)
-
-    pub walk_out : left ≤ 0 → Acted (made taxes (summed L (link_doc t x l) cur n)) x (taxes_of p) b at h h e₀ e u₀ u
-    walk_out z = as_summed (fold_out (summing L (link_doc t x l) cur n) l _ w.state left c w.rest z)
+    pub walk_out : cs ≡ [] → Acted (made taxes (summed L D cur n)) x p h h e₀ e u₀ u
+    walk_out q = rw (k.rest, q) k.acted
 
 -- the amounts of the firsts, beside BT-110 and BT-111 after the walk
-pub sums_acted : (L : Lent) (D : Doc ℕ Place) (cur : Currencies Place) (n : ℕ) {x : List ℕ} {f : Firsts} {a c v w p r : Option ℤ} {b at : Cursor} {h e e' u u' : List ℤ} → Hears L.mode L.currency D n f → Acted (made taxes (summed L D cur n)) x (v, w) b at h h e e' u u' → a ≡ (said_by f.allowance).0 → c ≡ (said_by f.charge).0 → p ≡ (said_by f.paid).0 → r ≡ (said_by f.rounding).0 → Acted (made amounts (summed L D cur n)) x (a, c, v, w, p, r) b at h h e e' u u'
+pub sums_acted :
+    (L : Lent) (D : Doc ℕ Place) (cur : Currencies Place) (n : ℕ) {x : List ℕ} {f : Firsts} {a c v w p r : Option ℤ} {h : HeldRows} {e e' : Entries} {u u' : UnmappedRows} → Hears L.mode L.currency D n f → Acted (made taxes (summed L D cur n)) x (v, w) h h e e' u u' → a ≡ (said_by f.allowance).0 → c ≡ (said_by f.charge).0 → p ≡ (said_by f.paid).0 → r ≡ (said_by f.rounding).0 →
+    Acted (made amounts (summed L D cur n)) x (a, c, v, w, p, r) h h e e' u u'
 unfolding first
 sums_acted L D cur n s k i j o q =
     let d = dues_summed L D cur n in
@@ -81,11 +81,11 @@ abbrev as_totals : ℤ → ℤ → ℤ → ℤ → Option ℤ × Option ℤ × O
 as_totals i j k o s = record { line = i; allowance = s.0; charge = s.1; taxable = j; vat = s.2; vat_accounting = s.3; gross = k; paid = s.4; rounding = s.5; due = o }
 
 pub totals_acted :
-    (L : Lent) (D : Doc ℕ Place) (cur : Currencies Place) (n : ℕ) {x : List ℕ} {a c v w p r : Option ℤ} {i j k o : ℤ} {b at : Cursor} {h e e₀ e₁ e₂ e₃ e₄ u u' : List ℤ} {n₁ n₂ n₃ n₄ : ℕ} → Acted (made amounts (summed L D cur n)) x (a, c, v, w, p, r) b at h h e e₀ u u' →
-    Told (required_amount L D Rule.Br12 Path.SettlementSummation (site Path.SummationLineTotalAmount Term.Bt106) n (bytes "LineTotalAmount")) e₀ at.entries i e₁ n₁ →
-    Told (required_amount L D Rule.Br13 Path.SettlementSummation (site Path.SummationTaxBasisTotalAmount Term.Bt109) n (bytes "TaxBasisTotalAmount")) e₁ n₁ j e₂ n₂ →
-    Told (required_amount L D Rule.Br14 Path.SettlementSummation (site Path.SummationGrandTotalAmount Term.Bt112) n (bytes "GrandTotalAmount")) e₂ n₂ k e₃ n₃ →
-    Told (required_amount L D Rule.Br15 Path.SettlementSummation (site Path.SummationDuePayableAmount Term.Bt115) n (bytes "DuePayableAmount")) e₃ n₃ o e₄ n₄ →
-    Acted (totals L D cur n) x (some (record { line = i; allowance = a; charge = c; taxable = j; vat = v; vat_accounting = w; gross = k; paid = p; rounding = r; due = o })) b (record { held = at.held; entries = n₄; unmapped = at.unmapped }) h h e e₄ u u'
+    (L : Lent) (D : Doc ℕ Place) (cur : Currencies Place) (n : ℕ) {x : List ℕ} {a c v w p r : Option ℤ} {i j k o : ℤ} {h : HeldRows} {e e₀ e₁ e₂ e₃ e₄ : Entries} {u u' : UnmappedRows} → Acted (made amounts (summed L D cur n)) x (a, c, v, w, p, r) h h e e₀ u u' →
+    Told (required_amount L D Rule.Br12 Path.SettlementSummation (site Path.SummationLineTotalAmount Term.Bt106) n (bytes "LineTotalAmount")) e₀ i e₁ →
+    Told (required_amount L D Rule.Br13 Path.SettlementSummation (site Path.SummationTaxBasisTotalAmount Term.Bt109) n (bytes "TaxBasisTotalAmount")) e₁ j e₂ →
+    Told (required_amount L D Rule.Br14 Path.SettlementSummation (site Path.SummationGrandTotalAmount Term.Bt112) n (bytes "GrandTotalAmount")) e₂ k e₃ →
+    Told (required_amount L D Rule.Br15 Path.SettlementSummation (site Path.SummationDuePayableAmount Term.Bt115) n (bytes "DuePayableAmount")) e₃ o e₄ →
+    Acted (totals L D cur n) x (some (record { line = i; allowance = a; charge = c; taxable = j; vat = v; vat_accounting = w; gross = k; paid = p; rounding = r; due = o })) h h e e₄ u u'
 unfolding totals
 totals_acted L D cur n s i j k o = record { same = ap some (rw (i.same, j.same, k.same, o.same) (ap (as_totals _ _ _ _) s.same)); held = s.held; said = said_then s.said (said_then i.said (said_then j.said (said_then k.said o.said))); noted = s.noted }

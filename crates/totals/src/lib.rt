@@ -3,9 +3,8 @@
 //
 // The children are read in one pass, each name looked up once, and what the first child of each
 // optional amount's name says is remembered; the required amounts come after them. Tax totals are told
-// apart by the currencies read so far, BT-5 and BT-6, and not by the currency that is lent. A document
-// is lent as a table, its text and its links (crate `element`). No public function has a `requires`,
-// and the crate assumes nothing of its own.
+// apart by the currencies read so far, BT-5 and BT-6, and not by the currency that is lent. No public
+// function has a `requires`, and the crate assumes nothing of its own.
 #![tactic(auto)]
 
 mod firsts;
@@ -15,5 +14,5 @@ mod summands;
 mod summation;
 mod tax;
 
-pub use state::{Currencies, Sums, Totals, TotalsSaid};
+pub use state::{Currencies, Sums, Totals};
 pub use summation::totals;

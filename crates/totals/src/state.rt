@@ -1,17 +1,17 @@
 // What a summation holds, and what its children are read by.
 use amount::InvoiceAmount;
-use report::{Amount, Cursor, Text};
+use report::Place;
 use values::Lent;
 
 // The amounts that may be absent: BT-107, BT-108, BT-110, BT-111, BT-113 and BT-114.
 #[derive(Clone, Copy)]
 pub struct Sums {
-    pub allowance: Amount,
-    pub charge: Amount,
-    pub vat: Amount,
-    pub accounting: Amount,
-    pub paid: Amount,
-    pub rounding: Amount,
+    pub allowance: Option<InvoiceAmount>,
+    pub charge: Option<InvoiceAmount>,
+    pub vat: Option<InvoiceAmount>,
+    pub accounting: Option<InvoiceAmount>,
+    pub paid: Option<InvoiceAmount>,
+    pub rounding: Option<InvoiceAmount>,
 }
 
 // BG-22: BT-106, BT-109, BT-112 and BT-115, and the amounts that may be absent.
@@ -24,18 +24,11 @@ pub struct Totals {
     pub sums: Sums,
 }
 
-// Totals, and where the next rows go.
-#[derive(Clone, Copy)]
-pub struct TotalsSaid {
-    pub totals: Totals,
-    pub cursor: Cursor,
-}
-
 // BT-5 and BT-6 as read so far.
 #[derive(Clone, Copy)]
 pub struct Currencies {
-    pub bt5: Text,
-    pub bt6: Text,
+    pub bt5: Option<Place>,
+    pub bt6: Option<Place>,
 }
 
 // What the children of a summation n are read by.

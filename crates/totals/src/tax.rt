@@ -1,124 +1,99 @@
 // Tax totals: BT-110 and BT-111.
-ghost use Rattle.std.specs.Prelude.{◌≡◌, cond, ◌&&◌, List, ℕ, ℤ};
+ghost use Rattle.std.specs.Prelude.{◌≡◌, cond, ◌&&◌, List, ℕ};
 ghost use Rattle.report.specs.Rows as rows;
 ghost use Rattle.report.specs.Values.{place_of, text_of, amount_of};
 ghost use Rattle.settlement.specs.Summation.{is_none, is_currency, tax_in, tax_total_of};
-ghost use Rattle.element.specs.LinkDoc.{link_doc};
+ghost use Rattle.element.specs.LinkDoc.{doc_of};
 ghost use Rattle.values.specs.Sites.{lent_of};
 ghost use Rattle.values.specs.Told.{Said, Told};
+ghost use Rattle.values.specs.declared.saying.Entries.{Entries};
 ghost use Rattle.totals.specs.Reading.{currencies, taxes_of, taxing, taxed};
 
 use crate::state::Currencies;
+use amount::InvoiceAmount;
+use element::Document;
 use names::{Message, Path, Term};
-use report::{Amount, Place, Text};
-use values::Lent;
+use report::Place;
+use values::{Entries, Lent};
 
 // BT-110 and BT-111.
 #[derive(Clone, Copy)]
 pub(crate) struct Taxes {
-    pub(crate) vat: Amount,
-    pub(crate) accounting: Amount,
-}
-
-// The two, and where the next entry goes.
-#[derive(Clone, Copy)]
-pub(crate) struct TaxesSaid {
-    pub(crate) taxes: Taxes,
-    pub(crate) at: usize,
+    pub(crate) vat: Option<InvoiceAmount>,
+    pub(crate) accounting: Option<InvoiceAmount>,
 }
 
 // Whether a currency was read and is this.
-fn is_currency(text: &[u8], read: Text, id: Place) -> bool
-    ensures { (table links : List ℕ) → result ≡ is_currency (link_doc table text.now links) (text_of read) (place_of id) }
+#[tactic(auto, unfolding(settlement::specs::Summation::is_currency))]
+fn is_currency(doc: &Document, read: Option<Place>, id: Place) -> bool
+    ensures { result ≡ is_currency (doc_of doc.now) (text_of read) (place_of id) }
 {
     match read {
-        Text::Absent => false,
-        Text::At(p) => text::same(element::shown(text, p), element::shown(text, id)),
+        None => false,
+        Some(p) => text::same(doc.shown(p), doc.shown(id)),
     }
 }
 
 // BT-110 after a tax total in BT-6: its amount, if BT-6 is BT-5 and BT-110 is absent.
-fn vat_beside(both: bool, held: Amount, read: Amount) -> Amount
+fn vat_beside(
+    both: bool,
+    held: Option<InvoiceAmount>,
+    read: Option<InvoiceAmount>,
+) -> Option<InvoiceAmount>
     ensures { amount_of result ≡ cond (both && is_none (amount_of held)) (amount_of read) (amount_of held) }
 {
-    if both {
-        match held {
-            Amount::Absent => read,
-            Amount::Of(_) => held,
-        }
-    } else {
-        held
-    }
+    if both && held.is_none() { read } else { held }
 }
 
 // The two after a tax total of an amount in a currency: BT-111 in BT-6, BT-110 in BT-5; one in neither is said,
 // behind what was said before.
+#[tactic(auto, unfolding(settlement::specs::Summation::tax_in, settlement::specs::Summation::with_vat))]
 fn tax_in(
-    text: &[u8],
-    entries: &mut [i64],
-    at: usize,
+    doc: &Document,
+    entries: &mut Entries,
     read: Currencies,
     taxes: Taxes,
-    amount: Amount,
+    amount: Option<InvoiceAmount>,
     id: Place,
-) -> TaxesSaid
-    ensures { (table links : List ℕ) (es : List (rows.Entry rows.Place)) (e : List ℤ) (a : ℕ) → Said es e a entries.old at → Told (taxed (tax_in (link_doc table text.now links) (currencies read) (amount_of amount) es (taxing (taxes_of taxes)) (place_of id))) e a (taxes_of result.taxes) entries.new result.at }
+) -> Taxes
+    ensures { (es : List (rows.Entry rows.Place)) (e : Entries) → Said es e entries.old → Told (taxed (tax_in (doc_of doc.now) (currencies read) (amount_of amount) es (taxing (taxes_of taxes)) (place_of id))) e (taxes_of result) entries.new }
 {
-    let bt5 = read.bt5;
-    let bt6 = read.bt6;
-    let vat = taxes.vat;
-    let is_vat = is_currency(text, bt5, id);
-    if is_currency(text, bt6, id) {
-        return TaxesSaid {
-            taxes: Taxes {
-                vat: vat_beside(is_vat, vat, amount),
-                accounting: amount,
-            },
-            at,
+    let is_vat = is_currency(doc, read.bt5, id);
+    if is_currency(doc, read.bt6, id) {
+        return Taxes {
+            vat: vat_beside(is_vat, taxes.vat, amount),
+            accounting: amount,
         };
     }
     if is_vat {
-        return TaxesSaid {
-            taxes: Taxes {
-                vat: amount,
-                ..taxes
-            },
-            at,
+        return Taxes {
+            vat: amount,
+            ..taxes
         };
     }
     let site = values::site(Path::SummationTaxTotalAmount, Term::Bt110);
-    let message = Message::TaxTotalCurrency;
-    TaxesSaid {
-        taxes,
-        at: values::say(entries, at, message, site, Text::At(id)),
-    }
+    entries.say(Message::TaxTotalCurrency, site, Some(id));
+    taxes
 }
 
 // The two after child c, a tax total: BT-110 where it has no currencyID.
+#[tactic(auto, unfolding(settlement::specs::Summation::tax_total_of, settlement::specs::Summation::with_vat, text::specs::Utf8::bytes, text::specs::Utf8::encode))]
 pub(crate) fn tax_total(
-    table: &[u32],
-    text: &[u8],
-    links: &[u16],
+    doc: &Document,
     lent: Lent,
-    entries: &mut [i64],
-    at: usize,
+    entries: &mut Entries,
     read: Currencies,
     taxes: Taxes,
     c: usize,
-) -> TaxesSaid
-    ensures { (currency : List ℕ) → Told (taxed (tax_total_of (lent_of lent currency) (link_doc table.now text.now links.now) (currencies read) (taxing (taxes_of taxes)) c)) entries.old at (taxes_of result.taxes) entries.new result.at }
+) -> Taxes
+    ensures { (currency : List ℕ) → Told (taxed (tax_total_of (lent_of lent currency) (doc_of doc.now) (currencies read) (taxing (taxes_of taxes)) c)) entries.old (taxes_of result) entries.new }
 {
-    let said = amounts::tax_amount(table, text, links, lent.mode, entries, at, c);
-    let amount = said.amount;
-    let id = element::attribute(table, text, links, c, b"currencyID");
-    match id {
-        Text::Absent => TaxesSaid {
-            taxes: Taxes {
-                vat: amount,
-                ..taxes
-            },
-            at: said.at,
+    let amount = amounts::tax_amount(doc, lent.mode, entries, c);
+    match doc.attribute(c, b"currencyID") {
+        None => Taxes {
+            vat: amount,
+            ..taxes
         },
-        Text::At(p) => tax_in(text, entries, said.at, read, taxes, amount, p),
+        Some(p) => tax_in(doc, entries, read, taxes, amount, p),
     }
 }

@@ -19,13 +19,13 @@ use Rattle.settlement.specs.TableDoc.{shows, table_doc}
 use Rattle.settlement.specs.Walk.{placed, insert, insert_all}
 use Rattle.settlement.proofs.UnmappedSet.{insert_ascending}
 use Rattle.element.specs.LinkDoc.{link_doc}
-use Rattle.unmapped.specs.declared.search.Spot.{Spot}
 use Rattle.unmapped.specs.Row.{element_key, element_order, standing}
 use Rattle.unmapped.specs.Search.{sought}
 use Rattle.unmapped.specs.Noting.{Rows, inserted, at_spot, noting, notings, Noted}
 use Rattle.unmapped.specs.Listed.{Listed}
 use Rattle.unmapped.proofs.Places.{Met, taken, free, halve_met, insert_taken, insert_free, ascending_before}
 use Rattle.unmapped.proofs.RowsBack.{back_key, back_inserted}
+use Rattle.std.specs.Prelude.{Option}
 
 -- the order is that of the reading of a document whose places show the text
 pub same_order : {N : Type 0} (D : Doc N Place) (x : List ℕ) → D.bytes ≡ shows x → unmapped_order D ≡ element_order x
@@ -102,7 +102,7 @@ module _ (x : List ℕ) (lent : List ℤ) (us : List (Unmapped Place)) (u : Unma
       (λ i p q. absurd (omega arith))
 
   -- at the spot that was found stands what insertion makes
-  at-spot : {s : Spot} → Met (standing x (put lent 0 (rows_of unmapped_row us)) u) (length us) s → at_spot s (put lent 0 (rows_of unmapped_row us)) (length us) u ≡ front lent (insert (element_order x) u us)
+  at-spot : {s : Option ℕ} → Met (standing x (put lent 0 (rows_of unmapped_row us)) u) (length us) s → at_spot s (put lent 0 (rows_of unmapped_row us)) (length us) u ≡ front lent (insert (element_order x) u us)
   unfolding inserted
   at-spot (taken k h e g) =
       rw (insert_taken (element_order x) u us k h (sym (stands k h) ∙ e) (λ i p. sym (stands i (omega arith)) ∙ g i p))

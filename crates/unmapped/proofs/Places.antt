@@ -7,15 +7,14 @@ use native.Mathlib.Decide.{dec_lt}
 use lib.ListN.{length, get_or, take, drop}
 use Rattle.settlement.specs.Walk.{insert}
 use Rattle.settlement.specs.Sorted.{Ascending}
-use Rattle.unmapped.specs.declared.search.Spot.{Spot}
-use Rattle.unmapped.specs.declared.search.Spot.TheVariants.{Taken, Free}
 use Rattle.unmapped.specs.Search.{middle, turned, halve}
 use Rattle.unmapped.proofs.Halving.{halve_in, halve_out}
+use Rattle.std.specs.Prelude.{Option, None, Some}
 
 -- of n rows, the spot is behind those that come before the element, and before those that come behind it
-pub data Met (c : ℕ → Ordering) (n : ℕ) : Spot → Type 0 where
-  taken : (k : ℕ) → k < n → c k ≡ Ordering.eq → ((i : ℕ) → i < k → c i ≡ Ordering.gt) → Met c n Taken
-  free : {k : ℕ} → k ≤ n → ((i : ℕ) → i < k → c i ≡ Ordering.gt) → ((i : ℕ) → k ≤ i → i < n → c i ≡ Ordering.lt) → Met c n (Free k)
+pub data Met (c : ℕ → Ordering) (n : ℕ) : Option ℕ → Type 0 where
+  taken : (k : ℕ) → k < n → c k ≡ Ordering.eq → ((i : ℕ) → i < k → c i ≡ Ordering.gt) → Met c n None
+  free : {k : ℕ} → k ≤ n → ((i : ℕ) → i < k → c i ≡ Ordering.gt) → ((i : ℕ) → k ≤ i → i < n → c i ≡ Ordering.lt) → Met c n (Some k)
 
 -- where what comes before a row comes before the later ones, and what does not comes behind the earlier ones
 module _ (c : ℕ → Ordering) (n : ℕ)
@@ -41,7 +40,7 @@ module _ (c : ℕ → Ordering) (n : ℕ)
       from : (m : ℕ) → ((i : ℕ) → m < i → i < n → c i ≡ Ordering.lt) → c m ≡ Ordering.lt → (i : ℕ) → m ≤ i → i < n → c i ≡ Ordering.lt
       from m g e i p q = elim (dec_lt m i) [ yes r ↦ g i r q | no r ↦ let w : i ≡ m = omega arith in rw w e ]
 
-      go : (o : Ordering) (s t : Spot) → c (middle lo hi) ≡ o → middle lo hi < n → (((i : ℕ) → middle lo hi ≤ i → i < n → c i ≡ Ordering.lt) → Met c n s) → (((i : ℕ) → i < middle lo hi + 1 → c i ≡ Ordering.gt) → Met c n t) → Met c n (turned o s t)
+      go : (o : Ordering) (s t : Option ℕ) → c (middle lo hi) ≡ o → middle lo hi < n → (((i : ℕ) → middle lo hi ≤ i → i < n → c i ≡ Ordering.lt) → Met c n s) → (((i : ℕ) → i < middle lo hi + 1 → c i ≡ Ordering.gt) → Met c n t) → Met c n (turned o s t)
       go Ordering.lt s t e m r q = r (from (middle lo hi) (λ i p w. later (middle lo hi) i p w e) e)
       go Ordering.eq s t e m r q = taken (middle lo hi) m e (λ i p. same i (middle lo hi) p m e)
       go Ordering.gt s t e m r q = q (up_to (middle lo hi) (λ i p. earlier i (middle lo hi) p m e) e)

@@ -4,9 +4,8 @@ use Rattle.std.proofs.Math.Seq.{slice}
 use Rattle.names.specs.Put.{put}
 use Rattle.report.specs.Rows.{Place, Unmapped}
 use Rattle.report.specs.Encoding.{unmapped_width, unmapped_row}
-use Rattle.unmapped.specs.declared.search.Spot.{Spot}
-use Rattle.unmapped.specs.declared.search.Spot.TheVariants.{Taken, Free}
 use Rattle.unmapped.specs.Search.{sought}
+use Rattle.std.specs.Prelude.{Option, None, Some}
 
 -- a list of rows and how many there are
 pub record Rows : Type 0 where
@@ -18,9 +17,9 @@ unfoldable pub inserted : List ℤ → ℕ → Unmapped Place → ℕ → Rows
 inserted l count u k = record { list = put l (k * unmapped_width) (unmapped_row u ++ slice (k * unmapped_width) (count * unmapped_width) l); count = count + 1 }
 
 -- by the spot that was found
-abbrev pub at_spot : Spot → List ℤ → ℕ → Unmapped Place → Rows
-at_spot Taken l count u = record { list = l; count = count }
-at_spot (Free k) l count u = inserted l count u k
+abbrev pub at_spot : Option ℕ → List ℤ → ℕ → Unmapped Place → Rows
+at_spot None l count u = record { list = l; count = count }
+at_spot (Some k) l count u = inserted l count u k
 
 -- an element noted; nothing changes where there is no room for one row more
 unfoldable pub noting : List ℕ → List ℤ → ℕ → Unmapped Place → Rows

@@ -10,4 +10,4 @@ mod note;
 mod row;
 mod search;
 
-pub use note::note_unmapped;
+pub use note::{UnmappedRows, note_unmapped};

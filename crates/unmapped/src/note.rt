@@ -1,25 +1,21 @@
 // An unmapped element noted among those before it.
-ghost use Rattle.std.specs.Prelude.{◌≡◌, ◌+◌, ◌*◌, ◌/◌, ◌≤◌, ◌<◌, length};
+ghost use Rattle.std.specs.Prelude.{◌≡◌, ◌+◌, ◌*◌, ◌/◌, ◌≤◌, ◌<◌, [], ◌∷◌, length};
 ghost use Rattle.std.proofs.Math.Seq.{slice};
 ghost use Rattle.names.specs.Put.{put};
 ghost use Rattle.report.specs.Encoding.{unmapped_width};
 ghost use Rattle.report.specs.Values.{unmapped_of};
 ghost use Rattle.unmapped.specs.Noting.{Noted, inserted, noting};
+ghost use Rattle.unmapped.specs.Acted.{Notes};
 
-use crate::search::{Spot, seek};
+use crate::search::seek;
 use report::{UNMAPPED_WIDTH, Unmapped, put_unmapped};
 
-// Moves the numbers from a place up to an end by one row, from the last to the first.
+// Moves the numbers from a place up to an end by one row.
 fn move_up(list: &mut [i64], at: usize, end: usize)
     requires { (at ≤ end) × (end + unmapped_width ≤ length list.old) }
     ensures { list.new ≡ put list.old (at + unmapped_width) (slice at end list.old) }
 {
-    let mut i = end;
-    while at < i {
-        i -= 1;
-        let v = list[i];
-        list[i + UNMAPPED_WIDTH] = v;
-    }
+    list.copy_within(at..end, at + UNMAPPED_WIDTH);
 }
 
 // Puts an element's row before row k of count, and answers how many rows there are then.
@@ -42,9 +38,24 @@ pub fn note_unmapped(text: &[u8], list: &mut [i64], count: usize, u: Unmapped) -
     if list.len() / UNMAPPED_WIDTH <= count {
         return count;
     }
-    let spot = seek(text, list, count, u);
-    match spot {
-        Spot::Taken => count,
-        Spot::Free(k) => insert_row(list, count, u, k),
+    match seek(text, list, count, u) {
+        None => count,
+        Some(k) => insert_row(list, count, u, k),
+    }
+}
+
+// The lent rows of unmapped elements, and how many there are.
+#[derive(Drop)]
+pub struct UnmappedRows<'a> {
+    pub list: &'a mut [i64],
+    pub count: usize,
+}
+
+impl UnmappedRows<'_> {
+    // Notes an unmapped element among those before it.
+    pub fn note(&mut self, text: &[u8], u: Unmapped)
+        ensures { Notes text.now (unmapped_of u ∷ []) self.old self.new }
+    {
+        self.count = note_unmapped(text, self.list, self.count, u);
     }
 }

@@ -7,33 +7,13 @@ ghost use Rattle.unmapped.specs.Row as row;
 ghost use Rattle.unmapped.specs.Row.{or_zero};
 
 use report::{UNMAPPED_WIDTH, Unmapped};
-use text::Ordering;
+use std::cmp::Ordering;
 
-// A parent's number as a number of a row.
-fn wide(x: u32) -> usize
-    ensures { result ≡ x }
-{
-    x as usize
-}
-
-// A signed number as a place or a length: 0 where it is negative.
-fn or_zero(z: i64) -> usize
-    ensures { result ≡ or_zero z }
-{
-    if z < 0 {
-        return 0;
-    }
-    z as usize
-}
-
-// A number of the list, and 0 past its end.
+// A number of the list as a place or a length: 0 past its end, and where it is negative.
 fn number_at(list: &[i64], n: usize) -> usize
     ensures { result ≡ or_zero (get_or list.now n (pos 0)) }
 {
-    if n < list.len() {
-        return or_zero(list[n]);
-    }
-    0
+    list.get(n).map_or(0, |&z| usize::try_from(z).unwrap_or(0))
 }
 
 // Number j of row k.
@@ -51,17 +31,14 @@ fn number(list: &[i64], k: usize, j: usize) -> usize
 pub(crate) fn standing(text: &[u8], list: &[i64], u: Unmapped, k: usize) -> Ordering
     ensures { ordering result ≡ row.standing text.now list.now (unmapped_of u) k }
 {
-    let parent = u.parent;
-    let name = u.name;
-    let own = wide(parent.number());
+    let own = u.parent.number() as usize;
     let held = number(list, k, 0);
     if own < held {
         return Ordering::Less;
     }
-    if held < own {
+    if own > held {
         return Ordering::Greater;
     }
-    let start = number(list, k, 1);
-    let len = number(list, k, 2);
-    text::compare(element::shown(text, name), text::clip(text, start, len))
+    let name = text::clip(text, number(list, k, 1), number(list, k, 2));
+    text::compare(u.name.bytes(text), name)
 }

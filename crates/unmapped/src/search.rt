@@ -5,35 +5,22 @@ ghost use Rattle.unmapped.specs.Search.{sought};
 
 use crate::row::standing;
 use report::Unmapped;
-use text::Ordering;
+use std::cmp::Ordering;
 
-// Where a row goes, unless its parent and name are there already.
-#[derive(Clone, Copy)]
-pub(crate) enum Spot {
-    Taken,
-    Free(usize),
-}
-
-// The spot of an element among count rows, which are halved until none is left to search.
-pub(crate) fn seek(text: &[u8], list: &[i64], count: usize, u: Unmapped) -> Spot
+// Where the row of an element goes among count rows, unless its parent and name are there already. The
+// rows are numbers in a lent list, so the library has no search over them: they are halved until none is left.
+pub(crate) fn seek(text: &[u8], list: &[i64], count: usize, u: Unmapped) -> Option<usize>
     ensures { result ≡ sought text.now list.now count (unmapped_of u) }
 {
     let mut lo = 0;
     let mut hi = count;
     while lo < hi {
         let mid = lo + (hi - lo) / 2;
-        let s = standing(text, list, u, mid);
-        match s {
-            Ordering::Less => {
-                hi = mid;
-            }
-            Ordering::Equal => {
-                return Spot::Taken;
-            }
-            Ordering::Greater => {
-                lo = mid + 1;
-            }
+        match standing(text, list, u, mid) {
+            Ordering::Less => hi = mid,
+            Ordering::Equal => return None,
+            Ordering::Greater => lo = mid + 1,
         }
     }
-    Spot::Free(lo)
+    Some(lo)
 }

@@ -1,4 +1,5 @@
 -- What the code's values mean, and what a percentage or a date says whose trimmed text stands at a place: `percent_spelled` and `date_spelled` (proofs/Spelled.antt) join that to `percent_of` and `date_from`.
+use Rattle.text.specs.Options.{option_of}
 use Rattle.std.specs.Prelude.{Bool, true, cond, List, [], ◌∷◌, ℕ, ℤ}
 use Rattle.std.proofs.Math.Option.{Option, none, some}
 use Rattle.text.specs.Answer.{Answer}
@@ -12,7 +13,6 @@ use Rattle.names.specs.declared.message.Message.{Message}
 use Rattle.names.specs.declared.path.Path.{Path}
 use Rattle.names.specs.declared.term.Term.TheVariants as Term
 use Rattle.report.specs.Rows.{Place, Entry}
-use Rattle.report.specs.Values.{index_of}
 use Rattle.settlement.specs.Document.{Doc, maybe}
 use Rattle.settlement.specs.TableDoc.{shows}
 use Rattle.settlement.specs.Values.{Lent, Site, Says, site, entry, missing, percent_message, date_message, date_from, other_spelling, date_in}
@@ -22,7 +22,7 @@ use Rattle.values.specs.declared.dates.DatePaths.{DatePaths}
 
 -- where an entry is made
 abbrev pub site_of : Code.Site → Site
-site_of s = record { path = s.path; term = s.term; index = index_of s.index }
+site_of s = record { path = s.path; term = s.term; index = option_of s.index }
 
 -- what is lent beside the table, with the invoice currency
 abbrev pub lent_of : CodeLent.Lent → List ℕ → Lent

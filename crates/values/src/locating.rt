@@ -5,7 +5,6 @@ ghost use Rattle.values.specs.Sites.{site_of};
 
 use crate::saying::Site;
 use names::{Path, Term};
-use report::Index;
 
 // A site without a group.
 pub fn site(path: Path, term: Term) -> Site
@@ -14,7 +13,7 @@ pub fn site(path: Path, term: Term) -> Site
     Site {
         path,
         term,
-        index: Index::Absent,
+        index: None,
     }
 }
 
@@ -25,7 +24,7 @@ pub fn grouped(path: Path, term: Term, index: u32) -> Site
     Site {
         path,
         term,
-        index: Index::At(index),
+        index: Some(index),
     }
 }
 

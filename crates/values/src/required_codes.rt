@@ -1,51 +1,44 @@
 // Required codes, and the type code of a tax.
 ghost use Rattle.report.specs.Values.{place_of, text_of};
+ghost use Rattle.element.specs.LinkDoc.{lent_text};
 ghost use Rattle.values.specs.Sites.{site_of, code_in, not_vat_in};
 ghost use Rattle.values.specs.Told.{Said, Told};
 
-use crate::saying::{Site, missing, say};
+use crate::saying::{Entries, Site};
 use codes::Rule;
+use element::Document;
 use names::Message;
-use report::{Place, Text};
+use report::Place;
 
-// A required code, empty where it is missing, and where the next entry goes.
-#[derive(Clone, Copy)]
-pub struct RequiredCode {
-    pub code: Place,
-    pub at: usize,
-}
-
-// A required code, by the text of a child.
+// A required code, by the text of a child; empty where it is missing.
 pub fn required_code(
-    entries: &mut [i64],
-    at: usize,
+    entries: &mut Entries,
     rules: u32,
     rule: Rule,
     site: Site,
-    content: Text,
-) -> RequiredCode
-    ensures { Told (code_in rules rule (site_of site) (text_of content)) entries.old at (place_of result.code) entries.new result.at }
+    content: Option<Place>,
+) -> Place
+    ensures { Told (code_in rules rule (site_of site) (text_of content)) entries.old (place_of result) entries.new }
 {
     match content {
-        Text::Absent => RequiredCode {
-            code: Place::new(0, 0, 0),
-            at: missing(entries, at, rules, rule, site),
-        },
-        Text::At(p) => RequiredCode { code: p, at },
+        None => {
+            entries.missing(rules, rule, site);
+            Place::new(0, 0, 0)
+        }
+        Some(p) => p,
     }
 }
 
 // Says that a tax is not VAT, where it has a type code that is not.
-pub fn say_non_vat(text: &[u8], entries: &mut [i64], at: usize, site: Site, code: Text) -> usize
-    ensures { Said (not_vat_in text.now (site_of site) (text_of code)) entries.old at entries.new result }
+pub fn say_non_vat(doc: &Document, entries: &mut Entries, site: Site, code: Option<Place>)
+    ensures { Said (not_vat_in (lent_text doc.now) (site_of site) (text_of code)) entries.old entries.new }
 {
     match code {
-        Text::Absent => at,
-        Text::At(p) => {
-            if codes::is_vat(element::shown(text, p)) {
-                return at;
+        None => {}
+        Some(p) => {
+            if !codes::is_vat(doc.shown(p)) {
+                entries.say(Message::NotVat, site, Some(p));
             }
-            say(entries, at, Message::NotVat, site, Text::At(p))
         }
     }
 }

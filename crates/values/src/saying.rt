@@ -1,5 +1,5 @@
 // Saying an entry: where it is made, and what it is about.
-ghost use Rattle.std.specs.Prelude.{◌∷◌, []};
+ghost use Rattle.std.specs.Prelude.{◌≡◌, ◌∷◌, []};
 ghost use Rattle.report.specs.Values.{text_of};
 ghost use Rattle.settlement.specs.Values as reading;
 ghost use Rattle.values.specs.Sites.{site_of};
@@ -7,42 +7,44 @@ ghost use Rattle.values.specs.Told.{Said};
 
 use codes::Rule;
 use names::{Message, Path, Term};
-use report::{Entry, Index, Text};
+use report::{Entry, Place};
 
 // Where an entry is made: the element's path, the term, and the index of its group.
 #[derive(Clone, Copy)]
 pub struct Site {
     pub(crate) path: Path,
     pub(crate) term: Term,
-    pub(crate) index: Index,
+    pub(crate) index: Option<u32>,
 }
 
-// Says a message at a site about a value.
-pub fn say(entries: &mut [i64], at: usize, message: Message, site: Site, value: Text) -> usize
-    ensures { Said (reading.entry message (site_of site) (text_of value) ∷ []) entries.old at entries.new result }
-{
-    let path = site.path;
-    let term = site.term;
-    let index = site.index;
-    report::put_entry(
-        entries,
-        at,
-        Entry {
+// The lent entries, and where the next goes.
+#[derive(Drop)]
+pub struct Entries<'a> {
+    pub list: &'a mut [i64],
+    pub at: usize,
+}
+
+impl Entries<'_> {
+    // Says a message at a site about a value.
+    pub fn say(&mut self, message: Message, site: Site, value: Option<Place>)
+        ensures { Said (reading.entry message (site_of site) (text_of value) ∷ []) self.old self.new }
+    {
+        let entry = Entry {
             message,
-            path,
-            term,
-            index,
+            path: site.path,
+            term: site.term,
+            index: site.index,
             value,
-        },
-    )
-}
-
-// Says that a required term is missing, where its rule is in force.
-pub fn missing(entries: &mut [i64], at: usize, rules: u32, rule: Rule, site: Site) -> usize
-    ensures { Said (reading.missing rules rule (site_of site)) entries.old at entries.new result }
-{
-    if codes::is_in_force(rules, rule) {
-        return say(entries, at, Message::Missing, site, Text::Absent);
+        };
+        self.at = report::put_entry(self.list, self.at, entry);
     }
-    at
+
+    // Says that a required term is missing, where its rule is in force.
+    pub fn missing(&mut self, rules: u32, rule: Rule, site: Site)
+        ensures { Said (reading.missing rules rule (site_of site)) self.old self.new }
+    {
+        if codes::is_in_force(rules, rule) {
+            self.say(Message::Missing, site, None);
+        }
+    }
 }

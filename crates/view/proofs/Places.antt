@@ -5,12 +5,12 @@ use mathlib.Core.List.{List, []}
 use Prim.Native.Nat.{ℕ, ◌+◌, ◌-◌, ◌<◌, ◌≤◌, ◌^◌}
 use native.Mathlib.Omega.{arith}
 use borrow.Author.Tests.{ltb-true, leb-true, leb-false, le-leb, lt-leb}
-use lib.Dec.{T, leb}
-use lib.Signed.{lt_z, non_neg}
+use lib.Dec.{leb}
+use lib.Signed.{lt_z}
 use lib.IntN.{ℤ, pos, negsuc, nat_abs}
 use lib.ListN.{length}
 use mir.Syntax.{w64}
-use mir.Val.{SFits, Fits, to_z, of_z}
+use mir.Val.{SFits, to_z, of_z}
 use mir.Facts.{to_z-of_z}
 use Rattle.text.proofs.Bools.{not_both}
 use Rattle.text.specs.Span.{part_of}
@@ -31,12 +31,6 @@ module _ {z : ℤ} (f : SFits w64 z) where
       go (pos n) g t = (n, refl, g.sfits)
       go (negsuc k) g t = absurd (not_both refl t)
 
-  -- a number from 0 on is its own size
-  pub size_fits : lt_z (to_z w64 (of_z w64 z)) (pos 0) ≡ false → T (non_neg (to_z w64 (of_z w64 z))) × Fits w64 (nat_abs (to_z w64 (of_z w64 z)))
-  size_fits e =
-      let a = above e in
-      rw (to_z-of_z f, a.1) (tt, record { fits = omega (arith, a.2) })
-
 left_over : (k m l : ℕ) → k ≤ l → leb m (l - k) ≡ leb (k + m) l
 left_over k m l h = go (leb (k + m) l) refl
   where
@@ -56,12 +50,12 @@ module _ (s : List ℕ) (a n : ℤ) (fa : SFits w64 a) where
     no_length e = rw ((above fa ea).1, (below fn e).1) (refl, refl)
 
     module _ (en : lt_z (to_z w64 (of_z w64 n)) (pos 0) ≡ false) where
-      pub past : length s < nat_abs (to_z w64 (of_z w64 a)) → false ≡ lies s a n
+      pub past : length s < nat_abs (to_z w64 (of_z w64 a)) → leb (nat_abs (to_z w64 (of_z w64 a))) (length s) ≡ lies s a n
       unfolding lies
       past h =
           let k = (above fa ea).0 in
           let l : length s < k = rw (to_z-of_z fa, (above fa ea).1) at h in
-          rw ((above fa ea).1, (above fn en).1) (sym (lt-leb (k + (above fn en).0) (length s) (omega (arith, l))))
+          lt-leb _ (length s) h ∙ rw ((above fa ea).1, (above fn en).1) (sym (lt-leb (k + (above fn en).0) (length s) (omega (arith, l))))
 
       pub room : nat_abs (to_z w64 (of_z w64 a)) ≤ length s → leb (nat_abs (to_z w64 (of_z w64 n))) (length s - nat_abs (to_z w64 (of_z w64 a))) ≡ lies s a n
       unfolding lies

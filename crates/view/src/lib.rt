@@ -11,4 +11,4 @@
 mod place;
 mod value;
 
-pub use value::{View, bytes, bytes_at, is_there, is_there_at, new};
+pub use value::{View, bytes_at, is_there_at};

@@ -6,29 +6,20 @@ ghost use Rattle.view.specs.View.{lies, shown_at};
 pub(crate) fn is_shown(text: &[u8], start: i64, length: i64) -> bool
     ensures { result ≡ lies text.now start length }
 {
-    if start < 0 {
-        return false;
-    }
-    if length < 0 {
+    if start < 0 || length < 0 {
         return false;
     }
     let from = start as usize;
     let len = length as usize;
-    if text.len() < from {
-        return false;
-    }
-    len <= text.len() - from
+    from <= text.len() && len <= text.len() - from
 }
 
 // The bytes at a place, none where it is absent or outside the text.
 pub(crate) fn shown(text: &[u8], start: i64, length: i64) -> &[u8]
     ensures { result.now ≡ shown_at text.now start length }
 {
-    if start < 0 {
-        return &text[0..0];
-    }
-    if length < 0 {
-        return &text[0..0];
+    if start < 0 || length < 0 {
+        return &[];
     }
     text::part(text, start as usize, length as usize)
 }

@@ -5,7 +5,6 @@
 // answers. tools/views.py has the lines that must come, written from document 01 ("Rows").
 #![tactic(auto)]
 
-use decimals::{put_byte, put_signed};
 use std::io;
 
 // Starts and lengths.
@@ -24,31 +23,24 @@ const NUMBERS: [i64; 12] = [
     9223372036854775807,
 ];
 
-// Both numbers of a place.
-fn print_place(rt: &impl Print, start: i64, length: i64) -> io::Result<()> {
-    let mut out = [0u8; 42];
-    let space = put_signed(&mut out, 0, start);
-    let next = put_byte(&mut out, space, b' ');
-    let end = put_signed(&mut out, next, length);
-    rt.write_all(text::clip(&out, 0, end))
-}
-
 // What the view of a place answers.
 fn print_view(rt: &impl Print, text: &[u8], start: i64, length: i64) -> io::Result<()> {
-    print_place(rt, start, length)?;
-    if view::is_there_at(text, start, length) {
-        rt.write_all(b" there:")?;
+    let there = if view::is_there_at(text, start, length) {
+        "there"
     } else {
-        rt.write_all(b" none:")?;
-    }
+        "none"
+    };
+    print!(rt; "{start} {length} {there}:")?;
     rt.write_all(view::bytes_at(text, start, length))?;
     rt.write_all(b"\n")
 }
 
 // Each start with each length.
 fn print_text(rt: &impl Print, text: &[u8]) -> io::Result<()> {
-    for i in 0..144 {
-        print_view(rt, text, NUMBERS[i / 12], NUMBERS[i % 12])?;
+    for start in NUMBERS {
+        for length in NUMBERS {
+            print_view(rt, text, start, length)?;
+        }
     }
     Ok(())
 }

@@ -4,8 +4,8 @@ use Rattle.date.proofs.parse_trimmed.Goals as goal
 pub returns-then-t-ne8 : goal.returns-then-t-ne8
 returns-then-t-ne8 c = search date_length
 
-pub returns-in-Number : goal.returns-in-Number
-returns-in-Number c = search date_some
+pub returns-in-Some : goal.returns-in-Some
+returns-in-Some c = search date_some
 
-pub returns-in-Unfit : goal.returns-in-Unfit
-returns-in-Unfit c = search date_none
+pub returns-in-None : goal.returns-in-None
+returns-in-None c = search date_none

@@ -10,9 +10,9 @@ pub returns-then-is_digit : goal.returns-then-is_digit
 unfolding whole_step
 returns-then-is_digit c = simp (c.push_digit.ensures, ← c.count_up.ensures, c.if-is_digit.true, ← c.is_digit.ensures)
 
-pub returns-then-point : goal.returns-then-point
+pub returns-then-b-eq46 : goal.returns-then-b-eq46
 unfolding whole_step
-returns-then-point c = search (tests, rules)
+returns-then-b-eq46 c = search (tests, rules)
 
 pub returns : goal.returns
 unfolding whole_step

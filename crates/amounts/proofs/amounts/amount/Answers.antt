@@ -5,8 +5,8 @@ use Rattle.amounts.proofs.amounts.amount.Goals as goal
 
 pub returns-then-e-eq0 : goal.returns-then-e-eq0
 unfolding amount_found
-returns-then-e-eq0 c = rw c.if-e-eq0.true (told_silent _ _)
+returns-then-e-eq0 c = rw c.if-e-eq0.true (told_silent _)
 
 pub returns : goal.returns
 unfolding amount_found
-returns c = rw (found_is c.if-e-eq0.false, ← c.hear-heard.ensures _) c.tell.ensures
+returns c = rw (found_is c.if-e-eq0.false, ← c.hear.ensures _) c.tell.ensures

@@ -9,10 +9,10 @@ pub returns-then-e-eq0 : goal.returns-then-e-eq0
 unfolding required_found
 returns-then-e-eq0 c = rw c.if-e-eq0.true c.absent.ensures
 
-pub returns-in-Absent : goal.returns-in-Absent
+pub returns-in-None : goal.returns-in-None
 unfolding required_found
-returns-in-Absent c = rw (found_is c.if-e-eq0.false, ← c.text_in-content.ensures, c.in-Absent.is) c.absent-in-Absent.ensures
+returns-in-None c = rw (found_is c.if-e-eq0.false, ← c.text_in.ensures, c.in-None.is) c.absent-in-None.ensures
 
-pub returns-in-At : goal.returns-in-At
+pub returns-in-Some : goal.returns-in-Some
 unfolding required_found amount_found reading.amount_of
-returns-in-At c = rw (found_is c.if-e-eq0.false, ← c.text_in-content.ensures, c.in-At.is, ← amount_spelled _ _ _ _ _ _ _ (rw c.in-At.is at c.text_in-content.ensures), ← c.hear_text-heard.ensures _) (told_or_zero c.tell-read.ensures c.or_zero.ensures)
+returns-in-Some c = rw (found_is c.if-e-eq0.false, ← c.text_in.ensures, c.in-Some.is, ← amount_spelled _ _ _ _ _ _ _ (rw c.in-Some.is at c.text_in.ensures), ← c.hear_text-heard.ensures _) (told_or_zero c.tell.ensures c.or_zero.ensures)

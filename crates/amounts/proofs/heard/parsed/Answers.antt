@@ -1,7 +1,12 @@
+use Rattle.amount.proofs.Errors.{no_amount}
 use Rattle.values.specs.Sites.{answered_at}
 use Rattle.amounts.specs.Amounts.{amount_at}
 use Rattle.amounts.proofs.heard.parsed.Goals as goal
 
-pub returns : goal.returns
+pub returns-in-Ok : goal.returns-in-Ok
 unfolding amount_at answered_at
-returns c = λ s. rw (← c.shown.ensures, ← c.parse_trimmed-answer.ensures, ← c.message_of.ensures) (c.answered.ensures s)
+returns-in-Ok c = λ s. rw (← c.shown.ensures, ← c.parse_trimmed.ensures, c.in-Ok.is)
+
+pub returns-in-Err : goal.returns-in-Err
+unfolding amount_at answered_at
+returns-in-Err c = λ s. rw (← c.shown.ensures, ← c.parse_trimmed.ensures, c.in-Err.is, no_amount c.in-Err.error, ← c.message_of.ensures)

@@ -1,19 +1,14 @@
-use native.Mathlib.Omega.{arith}
-use Rattle.text.proofs.Bools.{passed}
-use Rattle.cases.proofs.Lines.{listing_start, listing_digit, listing_next, listing_end}
+use Rattle.std.proofs.Common.{arith}
+use Rattle.cases.proofs.Lines.{listing_digit, listing_next, listing_end}
 use Rattle.cases.proofs.listing.numbers.Goals as goal
+use Rattle.cases.proofs.listing.numbers.Goals.{then-is_digit, else-is_digit}
 
-pub loop-i-init : goal.loop-i-init
-loop-i-init c = (omega arith, omega arith, listing_start _ _)
-
-pub grow-n-requires : goal.grow-n-requires
-grow-n-requires c = search passed
-
-pub loop-i-preserved-then-is_digit : goal.loop-i-preserved-then-is_digit
-loop-i-preserved-then-is_digit c = (omega arith, omega arith, search listing_digit)
-
-pub loop-i-preserved : goal.loop-i-preserved
-loop-i-preserved c = (omega arith, omega arith, search listing_next)
+pub loop-b-preserved : goal.loop-b-preserved
+loop-b-preserved c =
+    elim c.if-is_digit.branch [
+      | then-is_digit w ↦ rw (w.out-is, w.k-is, w.n-is) (omega arith, listing_digit _ _ _ _ _ _ c.loop-b.invariant.1 c.loop-b-test.true _ c.is_digit.ensures w.if-is_digit.true _ w.grow-n.ensures)
+      | else-is_digit w ↦ rw (w.out-is, w.k-is, w.n-is) (omega arith, listing_next _ _ _ _ _ _ c.loop-b.invariant.1 c.loop-b-test.true _ c.is_digit.ensures w.if-is_digit.false _ w.put.ensures)
+    ]
 
 pub returns : goal.returns
-returns c = search listing_end
+returns c = listing_end _ _ _ _ _ _ c.loop-b.invariant.1 c.loop-b-test.false _ c.put-2.ensures

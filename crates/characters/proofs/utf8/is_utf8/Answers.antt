@@ -1,5 +1,6 @@
-use Rattle.characters.proofs.Characters.{ascii_utf8}
+use mathlib.Core.Path.{◌∙◌}
+use Rattle.characters.proofs.Encoding.{utf8_std}
 use Rattle.characters.proofs.utf8.is_utf8.Goals as goal
 
-pub returns-then-is_ascii : goal.returns-then-is_ascii
-returns-then-is_ascii c = search ascii_utf8
+pub returns : goal.returns
+returns c = c.is_ok.ensures.value ∙ utf8_std _ c.args.s.now c.from_utf8.result c.from_utf8.ensures.cases

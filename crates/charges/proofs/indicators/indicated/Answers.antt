@@ -2,10 +2,10 @@ use Rattle.settlement.specs.Tax as reading
 use Rattle.values.proofs.Telling.{told_silent, told_said}
 use Rattle.charges.proofs.indicators.indicated.Goals as goal
 
-pub returns-in-Boolean : goal.returns-in-Boolean
+pub returns-in-Some : goal.returns-in-Some
 unfolding reading.indicated
-returns-in-Boolean c = rw (← c.own_text-own.ensures, ← c.shown.ensures, ← c.parse_boolean-answer.ensures, c.in-Boolean.is) (told_silent _ _)
+returns-in-Some c = rw (← c.own_text-own.ensures, ← c.shown.ensures, ← c.parse_boolean.ensures, c.in-Some.is) (told_silent _)
 
-pub returns-in-Malformed : goal.returns-in-Malformed
+pub returns-in-None : goal.returns-in-None
 unfolding reading.indicated
-returns-in-Malformed c = rw (← c.own_text-own.ensures, ← c.shown.ensures, ← c.parse_boolean-answer.ensures, c.in-Malformed.is) (told_said (rw c.site-site.ensures at c.say.ensures))
+returns-in-None c = rw (← c.own_text-own.ensures, ← c.shown.ensures, ← c.parse_boolean.ensures, c.in-None.is) (told_said (rw c.site-site.ensures at c.say.ensures))

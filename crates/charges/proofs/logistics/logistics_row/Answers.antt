@@ -1,4 +1,3 @@
-use Rattle.std.proofs.Common.{rules, tests}
 use mathlib.Core.Path.{refl}
 use native.Mathlib.Omega.{arith}
 use Rattle.text.specs.Order.{equal}
@@ -10,20 +9,17 @@ use Rattle.amounts.proofs.Spelled.{required_told}
 use Rattle.charges.proofs.Steps.{category_kid, logistics_told}
 use Rattle.charges.proofs.logistics.logistics_row.Goals as goal
 
-pub shape_of-entries : goal.shape_of-entries
-shape_of-entries c = search (tests, rules)
-
 pub returns : goal.returns
 unfolding bytes encode equal place all_names names_in
 returns c =
-    let t = c.args.table.now in
-    let x = c.args.text.now in
-    let l = c.args.links.now in
+    let t = c.args.doc.now.table.now in
+    let x = c.args.doc.now.text.now in
+    let l = c.args.doc.now.links.now in
     let n = c.args.n in
     let kept = c.first_children.ensures in
     let tax = kid_kept t x l n _ (bytes "AppliedTradeTax") 0 3 kept refl refl (omega arith) in
     let applied = kid_kept t x l n _ (bytes "AppliedAmount") 1 3 kept refl refl (omega arith) in
     let reason = kid_text_is t x l 0 n (bytes "Description") c.child_text.ensures (kid_kept t x l n _ _ 2 3 kept refl refl (omega arith)) in
     logistics_told _ _ _ _ c.charge_group-g.ensures
-    (told_as (category_kid t x l n (bytes "AppliedTradeTax") _ _ _ _ tax) (rw c.applied_paths-p.ensures at (c.required_trade_tax-tax.ensures c.args.currency.now)))
-    (required_told t x l n (bytes "AppliedAmount") _ c.applied_amount-q.ensures applied c.required_amount-sum.ensures) reason
+    (told_as (category_kid t x l n (bytes "AppliedTradeTax") _ _ _ _ tax) (rw c.applied_paths.ensures at (c.required_trade_tax-tax.ensures c.args.currency.now)))
+    (required_told t x l n (bytes "AppliedAmount") _ c.applied_amount-wanted.ensures applied c.required_amount-amount.ensures) reason

@@ -6,14 +6,14 @@ use Rattle.settlement.specs.Kinds.{same_kind, home}
 use Rattle.settlement.specs.Settlement.{own}
 use Rattle.children.proofs.rows.logistics_charge.Goals as goal
 
-pub returns-in-Absent : goal.returns-in-Absent
+pub returns-in-None : goal.returns-in-None
 unfolding step_by act_by own home same_kind
-returns-in-Absent c p b m u =
-    let acted = logistics-left _ _ _ _ _ u _ (rw c.in-Absent.is at c.logistics_charge-said.ensures) _ in
+returns-in-None c p b m u =
+    let acted = logistics-left _ _ _ _ u _ (rw c.in-None.is at c.logistics_charge.ensures) _ in
     record { state = lanes refl refl refl refl refl refl refl refl acted.same refl refl refl refl refl refl; held = acted.held; said = acted.said; noted = acted.noted }
 
-pub returns-in-Of : goal.returns-in-Of
+pub returns-in-Some : goal.returns-in-Some
 unfolding step_by act_by own home same_kind
-returns-in-Of c p b m u =
-    let acted = logistics_held _ _ _ _ _ u _ (rw c.in-Of.is at c.logistics_charge-said.ensures) c.put_charge.ensures in
+returns-in-Some c p b m u =
+    let acted = logistics_held _ _ _ _ u _ (rw c.in-Some.is at c.logistics_charge.ensures) c.hold_allowance_charge.ensures in
     record { state = lanes refl refl refl refl refl refl refl refl (charge_more refl _ ∙ acted.same) refl refl refl refl refl refl; held = acted.held; said = acted.said; noted = acted.noted }

@@ -10,5 +10,5 @@ use Rattle.children.proofs.rows.preceding_invoice.Goals as goal
 pub returns : goal.returns
 unfolding step_by act_by own home same_kind
 returns c currency p b m u =
-    let acted = preceding_acted (lent_of c.args.lent currency) _ _ _ _ u _ c.preceding-said.ensures c.put_preceding.ensures in
+    let acted = preceding_acted (lent_of c.args.lent currency) _ _ _ u _ c.preceding-row.ensures c.hold_preceding.ensures in
     record { state = lanes refl refl refl refl refl refl refl refl refl refl refl refl acted.same refl refl; held = acted.held; said = acted.said; noted = acted.noted }

@@ -9,5 +9,5 @@ use Rattle.children.proofs.rows.vat_breakdown.Goals as goal
 pub returns : goal.returns
 unfolding step_by act_by own home same_kind
 returns c p b m u =
-    let acted = vat_acted _ _ _ _ _ u _ c.vat_breakdown-said.ensures c.put_vat.ensures in
+    let acted = vat_acted _ _ _ _ u _ c.vat_breakdown.ensures c.hold_vat.ensures in
     record { state = lanes refl refl refl refl refl refl acted.same refl refl refl refl refl refl refl refl; held = acted.held; said = acted.said; noted = acted.noted }

@@ -1,58 +1,29 @@
 use mathlib.Core.Path.{refl}
 use native.Mathlib.Omega.{arith}
 use Rattle.children.proofs.Counting.{counted_within}
-use Rattle.children.proofs.Reaching.{reached_start, reached_step, reached_zero, reached_out}
+use Rattle.children.proofs.Reaching.{reached_start, reached_fewer, reached_step, reached_end}
 use Rattle.children.proofs.walk.read_children.Goals as goal
-use Rattle.children.proofs.walk.read_children.Goals.{in-Plain, in-Row, in-Billing, in-Summation, in-Other}
 
-pub loop-left-init : goal.loop-left-init
-loop-left-init c = (search reached_start, omega arith, refl, refl, refl)
+pub loop-c-init : goal.loop-c-init
+loop-c-init c = (tt, tt, reached_start (rw c.into_iter-c-iterator.ensures.into_iter_gives c.kids-c-items.ensures) c.requires.1)
 
-pub returns-then-c-eq0 : goal.returns-then-c-eq0
-returns-then-c-eq0 c = reached_zero _ _ _ _ _ _ _ _ _ c.loop-left.invariant.0 c.if-c-eq0.true
+pub row_child-tally-requires : goal.row_child-tally-requires
+row_child-tally-requires c = counted_within c.loop-c.invariant.2.counted (omega (arith, reached_fewer c.loop-c.invariant.2 c.in-Some.ensures.steps, c.requires.0))
 
-pub row_child-said-requires : goal.row_child-said-requires
-row_child-said-requires c = counted_within c.loop-left.invariant.0.counted (omega arith)
+pub loop-c-preserved-in-Plain : goal.loop-c-preserved-in-Plain
+loop-c-preserved-in-Plain c = (tt, tt, reached_step c.loop-c.invariant.2 c.in-Some.ensures.steps c.in-Plain.is c.kind_of.ensures (c.plain_child-plain.ensures _ _ _ _ _ _ _) refl refl refl refl refl refl refl)
 
-pub loop-left-preserved : goal.loop-left-preserved
-loop-left-preserved c =
-    elim c.match-kind.branch [
-      | in-Plain w ↦ (
-        reached_step _ _ _ _ _ _ _ _ _ c.loop-left.invariant.0 c.loop-left-test.true c.loop-left.invariant.1 c.if-c-eq0.false w.in-Plain.is c.kind_of-kind.ensures (w.plain_child-plain.ensures _ _ _ _ _ _ _ _) w.held-is w.entries-is w.unmapped-is w.plain-is w.tally-is w.billing-is w.totals-is w.cursor-is _ c.next_of-c.ensures,
-        omega arith,
-        omega (arith, c.match-kind.auto.held),
-        omega (arith, c.match-kind.auto.entries),
-        omega (arith, c.match-kind.auto.unmapped),
-      )
-      | in-Row w ↦ (
-        reached_step _ _ _ _ _ _ _ _ _ c.loop-left.invariant.0 c.loop-left-test.true c.loop-left.invariant.1 c.if-c-eq0.false w.in-Row.is c.kind_of-kind.ensures (w.row_child-said.ensures _ _ _ _) w.held-is w.entries-is w.unmapped-is w.plain-is w.tally-is w.billing-is w.totals-is w.cursor-is _ c.next_of-c.ensures,
-        omega arith,
-        omega (arith, c.match-kind.auto.held),
-        omega (arith, c.match-kind.auto.entries),
-        omega (arith, c.match-kind.auto.unmapped),
-      )
-      | in-Billing w ↦ (
-        reached_step _ _ _ _ _ _ _ _ _ c.loop-left.invariant.0 c.loop-left-test.true c.loop-left.invariant.1 c.if-c-eq0.false w.in-Billing.is c.kind_of-kind.ensures (w.billing_child-said.ensures _ _ _ _) w.held-is w.entries-is w.unmapped-is w.plain-is w.tally-is w.billing-is w.totals-is w.cursor-is _ c.next_of-c.ensures,
-        omega arith,
-        omega (arith, c.match-kind.auto.held),
-        omega (arith, c.match-kind.auto.entries),
-        omega (arith, c.match-kind.auto.unmapped),
-      )
-      | in-Summation w ↦ (
-        reached_step _ _ _ _ _ _ _ _ _ c.loop-left.invariant.0 c.loop-left-test.true c.loop-left.invariant.1 c.if-c-eq0.false w.in-Summation.is c.kind_of-kind.ensures (w.summation-said.ensures _ _ _ _) w.held-is w.entries-is w.unmapped-is w.plain-is w.tally-is w.billing-is w.totals-is w.cursor-is _ c.next_of-c.ensures,
-        omega arith,
-        omega (arith, c.match-kind.auto.held),
-        omega (arith, c.match-kind.auto.entries),
-        omega (arith, c.match-kind.auto.unmapped),
-      )
-      | in-Other w ↦ (
-        reached_step _ _ _ _ _ _ _ _ _ c.loop-left.invariant.0 c.loop-left-test.true c.loop-left.invariant.1 c.if-c-eq0.false w.in-Other.is c.kind_of-kind.ensures (w.unmapped_child-cursor.ensures _ _ _ _ _ _ _) w.held-is w.entries-is w.unmapped-is w.plain-is w.tally-is w.billing-is w.totals-is w.cursor-is _ c.next_of-c.ensures,
-        omega arith,
-        omega (arith, c.match-kind.auto.held),
-        omega (arith, c.match-kind.auto.entries),
-        omega (arith, c.match-kind.auto.unmapped),
-      )
-    ]
+pub loop-c-preserved-in-Row : goal.loop-c-preserved-in-Row
+loop-c-preserved-in-Row c = (tt, tt, reached_step c.loop-c.invariant.2 c.in-Some.ensures.steps c.in-Row.is c.kind_of.ensures (c.row_child-tally.ensures _ _ _ _) refl refl refl refl refl refl refl)
+
+pub loop-c-preserved-in-Billing : goal.loop-c-preserved-in-Billing
+loop-c-preserved-in-Billing c = (tt, tt, reached_step c.loop-c.invariant.2 c.in-Some.ensures.steps c.in-Billing.is c.kind_of.ensures (c.billing_child-billing.ensures _ _ _ _) refl refl refl refl refl refl refl)
+
+pub loop-c-preserved-in-Summation : goal.loop-c-preserved-in-Summation
+loop-c-preserved-in-Summation c = (tt, tt, reached_step c.loop-c.invariant.2 c.in-Some.ensures.steps c.in-Summation.is c.kind_of.ensures (c.summation.ensures _ _ _ _) refl refl refl refl refl refl refl)
+
+pub loop-c-preserved : goal.loop-c-preserved
+loop-c-preserved c = (tt, tt, reached_step c.loop-c.invariant.2 c.in-Some.ensures.steps c.in-Other.is c.kind_of.ensures (c.unmapped_child.ensures _ _ _ _ _ _ _) refl refl refl refl refl refl refl)
 
 pub returns : goal.returns
-returns c = reached_out _ _ _ _ _ _ _ _ _ c.loop-left.invariant.0 c.loop-left-test.false
+returns c = reached_end c.loop-c.invariant.2 c.in-None.ensures.steps.0

@@ -1,15 +1,10 @@
-use mathlib.Core.Path.{◌≡◌}
-use Prim.Native.Nat.{◌/◌, ◌≤◌}
-use lib.ListN.{length}
+use Rattle.links.specs.Siblings.{siblings}
 use Rattle.values.specs.Sites.{lent_of}
 use Rattle.steps.specs.States.{state}
 use Rattle.children.proofs.Reaching.{Reached}
 use Rattle.children.proofs.walk.read_children.Given as goal
 
-abbrev pub invariant-loop-left : goal.invariant-loop-left
-invariant-loop-left l =
-    Reached (lent_of l.lent l.currency) l.table l.text l.links l.n (state l.initial.plain l.initial.tally l.initial.billing l.initial.totals l.initial.cursor) l.initial.held l.initial.entries l.initial.unmapped l.left l.c (state l.plain l.tally l.billing l.totals l.cursor) l.held l.entries l.unmapped × (l.left ≤ length l.links / 3) × (length l.held ≡ length l.initial.held) × (length l.entries ≡ length l.initial.entries) × (length l.unmapped ≡ length l.initial.unmapped)
-
-abbrev pub decreases-loop-left : goal.decreases-loop-left
-decreases-loop-left l =
-    l.left
+abbrev pub invariant-loop-c : goal.invariant-loop-c
+invariant-loop-c l =
+    goal.iterator-loop-c.can_next l.c-iterator × goal.iterator-loop-c.is_finite l.c-iterator ×
+    Reached (lent_of l.lent l.currency) l.doc.table.now l.doc.text.now l.doc.links.now l.n (state l.initial.plain l.initial.tally l.initial.billing l.initial.totals) l.initial.held l.initial.entries l.initial.unmapped (siblings l.c-iterator) (state l.plain l.tally l.billing l.totals) l.held l.entries l.unmapped

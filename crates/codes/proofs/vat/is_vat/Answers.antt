@@ -1,8 +1,5 @@
-use Rattle.codes.proofs.Vats.{vat_three, vat_other}
+use Rattle.codes.proofs.Vats.{vat_is}
 use Rattle.codes.proofs.vat.is_vat.Goals as goal
 
-pub returns-then-s-eq3 : goal.returns-then-s-eq3
-returns-then-s-eq3 c = search vat_three
-
 pub returns : goal.returns
-returns c = search vat_other
+returns c = vat_is c.args.s.now c.eq_ignore_ascii_case.result c.eq_ignore_ascii_case.ensures.test

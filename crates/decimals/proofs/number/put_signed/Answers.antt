@@ -1,8 +1,5 @@
-use Rattle.decimals.proofs.Signs.{placed_below, placed_above}
+use Rattle.decimals.proofs.Putting.{placed_signed}
 use Rattle.decimals.proofs.number.put_signed.Goals as goal
 
-pub returns-then-z-lt0 : goal.returns-then-z-lt0
-returns-then-z-lt0 c = search placed_below
-
 pub returns : goal.returns
-returns c = search placed_above
+returns c = placed_signed c.put_bytes.ensures c.as_bytes.ensures.value c.ranges.z c.format.ensures.text

@@ -11,9 +11,9 @@ use Rattle.groups.proofs.categories.trade_tax.Goals as goal
 pub returns : goal.returns
 unfolding bytes encode equal place all_names names_in
 returns c =
-    let t = c.args.table.now in
-    let x = c.args.text.now in
-    let l = c.args.links.now in
+    let t = c.args.doc.now.table.now in
+    let x = c.args.doc.now.text.now in
+    let l = c.args.doc.now.links.now in
     let n = c.args.n in
     let kept = c.first_children.ensures in
     told_as

@@ -5,4 +5,4 @@ use Rattle.groups.proofs.periods.period.Goals as goal
 
 pub returns : goal.returns
 unfolding bytes encode
-returns c = period_told _ _ _ (rw (date_kid _ _ _ _ _ _ _ c.kid-e.ensures) at c.date-start.ensures) (rw (date_kid _ _ _ _ _ _ _ c.kid-e-2.ensures) at c.date-end.ensures)
+returns c = period_told _ _ _ (rw (date_kid _ _ _ _ _ _ _ c.kid.ensures) at c.date.ensures) (rw (date_kid _ _ _ _ _ _ _ c.kid-2.ensures) at c.date-2.ensures)

@@ -12,11 +12,11 @@ use Rattle.groups.proofs.references.preceding.Goals as goal
 pub returns : goal.returns
 unfolding bytes encode equal place all_names names_in
 returns c =
-    let t = c.args.table.now in
-    let x = c.args.text.now in
-    let l = c.args.links.now in
+    let t = c.args.doc.now.table.now in
+    let x = c.args.doc.now.text.now in
+    let l = c.args.doc.now.links.now in
     let n = c.args.n in
     let kept = c.first_children.ensures in
     let id = kid_text_is t x l 0 n (bytes "IssuerAssignedID") c.child_text-id.ensures (kid_kept t x l n _ _ 0 2 kept refl refl (omega arith)) in
     let issue = kid_kept t x l n _ (bytes "FormattedIssueDateTime") 1 2 kept refl refl (omega arith) in
-    preceding_told _ _ _ _ _ c.grouped-site.ensures (told_as (code_kid t x l n (bytes "IssuerAssignedID") _ _ _ id) c.required_code-required.ensures) (told_as (date_kid t x l n (bytes "FormattedIssueDateTime") _ _ issue) c.date-issued.ensures)
+    preceding_told _ _ _ _ _ c.grouped-site.ensures (told_as (code_kid t x l n (bytes "IssuerAssignedID") _ _ _ id) c.required_code.ensures) (told_as (date_kid t x l n (bytes "FormattedIssueDateTime") _ _ issue) c.date.ensures)

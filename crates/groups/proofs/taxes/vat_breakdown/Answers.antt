@@ -1,4 +1,3 @@
-use Rattle.std.proofs.Common.{rules, tests}
 use mathlib.Core.Path.{refl}
 use native.Mathlib.Omega.{arith}
 use Rattle.text.specs.Order.{equal}
@@ -11,15 +10,12 @@ use Rattle.groups.proofs.Kids.{category_kids, point_kids}
 use Rattle.groups.proofs.Steps.{vat_breakdown_told}
 use Rattle.groups.proofs.taxes.vat_breakdown.Goals as goal
 
-pub shape_of-entries : goal.shape_of-entries
-shape_of-entries c = search (tests, rules)
-
 pub returns : goal.returns
 unfolding bytes encode equal place all_names names_in
 returns c =
-    let t = c.args.table.now in
-    let x = c.args.text.now in
-    let l = c.args.links.now in
+    let t = c.args.doc.now.table.now in
+    let x = c.args.doc.now.text.now in
+    let l = c.args.doc.now.links.now in
     let n = c.args.n in
     let kept = c.first_children.ensures in
     let basis = kid_kept t x l n _ (bytes "BasisAmount") 2 9 kept refl refl (omega arith) in
@@ -27,10 +23,10 @@ returns c =
     let reason = kid_kept t x l n _ (bytes "ExemptionReason") 7 9 kept refl refl (omega arith) in
     let reason-code = kid_kept t x l n _ (bytes "ExemptionReasonCode") 8 9 kept refl refl (omega arith) in
     vat_breakdown_told _ _ _ _
-    (told_as (point_kids t x l n _ _ (kid_kept t x l n _ _ 0 9 kept refl refl (omega arith)) (kid_kept t x l n _ _ 1 9 kept refl refl (omega arith))) c.point-moment.ensures)
-    (required_told t x l n _ _ c.taxable_amount-q.ensures basis c.required_amount-taxable.ensures)
-    (required_told t x l n _ _ c.tax_amount-q.ensures calculated c.required_amount-tax.ensures)
-    c.vat_category-of.ensures
+    (told_as (point_kids t x l n _ _ (kid_kept t x l n _ _ 0 9 kept refl refl (omega arith)) (kid_kept t x l n _ _ 1 9 kept refl refl (omega arith))) c.point-state.ensures)
+    (required_told t x l n _ _ c.taxable_amount-wanted.ensures basis c.required_amount-taxable.ensures)
+    (required_told t x l n _ _ c.tax_amount-wanted.ensures calculated c.required_amount-tax.ensures)
+    c.vat_category.ensures
     (told_as
     (category_kids t x l n _ _ _ _ _ (kid_kept t x l n _ _ 4 9 kept refl refl (omega arith)) (kid_kept t x l n _ _ 5 9 kept refl refl (omega arith)) (kid_kept t x l n _ _ 6 9 kept refl refl (omega arith)))
     c.category_of-category.ensures)

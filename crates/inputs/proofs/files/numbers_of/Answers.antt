@@ -1,14 +1,14 @@
-use mathlib.Core.Path.{refl}
+use Rattle.std.proofs.Common.{sym}
 use native.Mathlib.Omega.{arith}
-use borrow.Author.Rules.{rules}
-use Rattle.inputs.proofs.Numbers.{putting_start, putting_turn, putting_end}
+use Rattle.names.proofs.Puts.{put_none}
+use Rattle.inputs.proofs.Numbers.{numbers_turn, numbers_end}
 use Rattle.inputs.proofs.files.numbers_of.Goals as goal
 
 pub loop-k-init : goal.loop-k-init
-loop-k-init c = (refl, omega arith, putting_start _ _)
+loop-k-init c = sym (put_none _ _)
 
 pub loop-k-preserved : goal.loop-k-preserved
-loop-k-preserved c = (search rules, omega arith, search putting_turn)
+loop-k-preserved c = numbers_turn _ _ c.loop-k.k _ (omega arith) c.loop-k.invariant c.from_le_bytes.ensures
 
 pub returns : goal.returns
-returns c = search putting_end
+returns c = numbers_end _ _ _ c.as_chunks.ensures.front c.min-k-end.ensures c.loop-k.auto.k-end c.loop-k-test.false c.loop-k.invariant

@@ -1,11 +1,7 @@
-use mathlib.Core.Path.{◌≡◌}
-use Prim.Native.Nat.{◌≤◌, ◌-◌, ◌/◌}
-use lib.ListN.{length}
-use Rattle.inputs.proofs.Numbers.{Putting}
+use Rattle.std.proofs.Common.{◌≡◌, take, map, w32}
+use Rattle.std.specs.Int.{from_le_bytes}
+use Rattle.names.specs.Put.{put}
 use Rattle.inputs.proofs.files.numbers_of.Given as goal
 
 abbrev pub invariant-loop-k : goal.invariant-loop-k
-invariant-loop-k l = (l.n ≡ length l.records / 4) × (l.k ≤ l.n) × Putting l.records l.initial.table l.table l.k
-
-abbrev pub decreases-loop-k : goal.decreases-loop-k
-decreases-loop-k l = l.n - l.k
+invariant-loop-k l = l.table ≡ put l.initial.table 0 (take l.k (map (from_le_bytes w32) l.numbers))

@@ -1,31 +1,34 @@
-use Rattle.std.proofs.Common.{ap, not}
 use native.Mathlib.Omega.{arith}
-use Rattle.inputs.proofs.Lines.{long_line, space_inside, one_field, two_fields, three_fields, four_fields, five_fields}
+use Rattle.inputs.proofs.Lines.{long_line, spaced_inside, one_field, two_fields, three_fields, four_fields, five_fields}
 use Rattle.inputs.proofs.input_line.parse_line.Goals as goal
 
 pub returns-then-input-gt-LONGEST : goal.returns-then-input-gt-LONGEST
 returns-then-input-gt-LONGEST c = search long_line
 
-pub returns-then-not-is_space : goal.returns-then-not-is_space
-returns-then-not-is_space c = search one_field
+pub returns-in_err-mode : goal.returns-in_err-mode
+returns-in_err-mode c = rw c.from_residual.ensures (one_field _ c.if-input-gt-LONGEST.false c.in_err-mode.ensures)
 
 pub overflow_add-mode : goal.overflow_add-mode
-overflow_add-mode c = omega (arith, space_inside _ _ c.is_space.ensures (ap not c.if-not-is_space.false))
+overflow_add-mode c = omega (arith, spaced_inside _ _ c.in_ok-mode.ensures)
 
-pub returns-then-not-is_space-2 : goal.returns-then-not-is_space-2
-returns-then-not-is_space-2 c = search two_fields
+pub returns-in_err-rules : goal.returns-in_err-rules
+returns-in_err-rules c =
+    rw c.from_residual-in_err-rules.ensures (two_fields _ c.if-input-gt-LONGEST.false c.in_ok-mode.ensures c.in_err-rules.ensures)
 
 pub overflow_add-rules : goal.overflow_add-rules
-overflow_add-rules c = omega (arith, space_inside _ _ c.is_space-2.ensures (ap not c.if-not-is_space-2.false))
+overflow_add-rules c = omega (arith, spaced_inside _ _ c.in_ok-rules.ensures)
 
-pub returns-then-not-is_space-3 : goal.returns-then-not-is_space-3
-returns-then-not-is_space-3 c = search three_fields
+pub returns-in_err-currency : goal.returns-in_err-currency
+returns-in_err-currency c =
+    rw c.from_residual-in_err-currency.ensures (three_fields _ c.if-input-gt-LONGEST.false c.in_ok-mode.ensures c.in_ok-rules.ensures c.in_err-currency.ensures)
 
 pub overflow_add-currency : goal.overflow_add-currency
-overflow_add-currency c = omega (arith, space_inside _ _ c.is_space-3.ensures (ap not c.if-not-is_space-3.false))
+overflow_add-currency c = omega (arith, spaced_inside _ _ c.in_ok-currency.ensures)
 
 pub returns-then-not-is_closing : goal.returns-then-not-is_closing
-returns-then-not-is_closing c = search five_fields
+returns-then-not-is_closing c =
+    five_fields _ c.if-input-gt-LONGEST.false c.in_ok-mode.ensures c.in_ok-rules.ensures c.in_ok-currency.ensures c.field_at-identifier.ensures c.is_closing.ensures c.if-not-is_closing.true
 
 pub returns : goal.returns
-returns c = search four_fields
+returns c =
+    four_fields _ c.if-input-gt-LONGEST.false c.in_ok-mode.ensures c.in_ok-rules.ensures c.in_ok-currency.ensures c.field_at-identifier.ensures c.is_closing.ensures c.if-not-is_closing.false c.fields_of.ensures

@@ -1,14 +1,9 @@
-use Rattle.inputs.proofs.Bytes.{passing_start, field_here, field_turn, field_past}
+use native.Mathlib.Omega.{arith}
+use Rattle.inputs.proofs.Bytes.{field_inside, field_found}
 use Rattle.inputs.proofs.parts.field_at.Goals as goal
 
-pub loop-i-init : goal.loop-i-init
-loop-i-init c = passing_start _ _
-
-pub returns-then-is_mark : goal.returns-then-is_mark
-returns-then-is_mark c = search field_here
-
-pub loop-i-preserved : goal.loop-i-preserved
-loop-i-preserved c = search field_turn
+pub overflow_add-end : goal.overflow_add-end
+overflow_add-end c = omega (arith, field_inside c.args.s.now c.args.start c.rest.ensures c.length_of_word.ensures)
 
 pub returns : goal.returns
-returns c = search field_past
+returns c = search field_found

@@ -1,27 +1,11 @@
-use mathlib.Core.Path.{◌∙◌}
-use lib.ListN.{take}
-use Rattle.text.specs.Place.{all_names, names_in, meant}
+use mathlib.Core.Path.{refl}
 use Rattle.text.specs.Utf8.{bytes, encode}
-use Rattle.text.proofs.Places.{meant_at, meant_none}
+use Rattle.text.proofs.Places.{meant_by}
 use Rattle.settlement.specs.Kinds.{kinds, kind_named}
+use Rattle.kinds.specs.Kinds.{kind_is}
+use Rattle.kinds.specs.declared.child.Kind.TheVariants.{Other}
 use Rattle.kinds.proofs.child.kind_named.Goals as goal
 
-pub returns-in-0 : goal.returns-in-0
-unfolding kinds kind_named meant all_names names_in bytes encode
-returns-in-0 c = meant_at _ (take 4 kinds) _ c.place_of.ensures 0 c.in-0.is
-
-pub returns-in-1 : goal.returns-in-1
-unfolding kinds kind_named meant all_names names_in bytes encode
-returns-in-1 c = meant_at _ (take 4 kinds) _ c.place_of.ensures 1 c.in-1.is
-
-pub returns-in-2 : goal.returns-in-2
-unfolding kinds kind_named meant all_names names_in bytes encode
-returns-in-2 c = meant_at _ (take 4 kinds) _ c.place_of.ensures 2 c.in-2.is
-
-pub returns-in-3 : goal.returns-in-3
-unfolding kinds kind_named meant all_names names_in bytes encode
-returns-in-3 c = meant_at _ (take 4 kinds) _ c.place_of.ensures 3 c.in-3.is
-
-pub returns-in_default : goal.returns-in_default
-unfolding kinds kind_named meant all_names names_in bytes encode
-returns-in_default c = c.other_kind.ensures ∙ meant_none _ (take 4 kinds) _ c.place_of.ensures c.in_default.in_default-own.rest
+pub returns : goal.returns
+unfolding kinds kind_named bytes encode
+returns c = meant_by kind_is Other c.args.name.now _ kinds c.unwrap_or.ensures c.meaning_of.ensures refl

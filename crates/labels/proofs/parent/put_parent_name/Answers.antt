@@ -2,9 +2,9 @@ use mathlib.Core.Path.{refl}
 use Rattle.text.specs.Utf8.{bytes, encode}
 use Rattle.names.specs.Parent.{parents}
 use Rattle.labels.specs.ParentName.{parent_name, parent_name_at}
-use Rattle.labels.proofs.Texts.{clean, all_clean, table, text_wrote}
+use Rattle.labels.proofs.Texts.{text_wrote}
 use Rattle.labels.proofs.parent.put_parent_name.Goals as goal
 
 pub returns : goal.returns
-unfolding parent_name_at parents bytes encode clean all_clean table
-returns c = text_wrote parent_name parents _ refl c.put_line.ensures
+unfolding parent_name_at parents bytes encode
+returns c = text_wrote parent_name parents _ refl c.put_text.ensures

@@ -1,12 +1,8 @@
 use mathlib.Core.Path.{◌≡◌}
-use Prim.Native.Nat.{◌≤◌}
 use lib.ListN.{length}
 use Rattle.table.specs.Table.{records}
 use Rattle.links.specs.Links.{link_below}
 use Rattle.links.proofs.links.link_each.Given as goal
 
 abbrev pub invariant-loop-j : goal.invariant-loop-j
-invariant-loop-j l = (link_below l.table (records l.table) l.initial.links ≡ link_below l.table l.j l.links) × (l.j ≤ records l.table) × (length l.links ≡ length l.initial.links)
-
-abbrev pub decreases-loop-j : goal.decreases-loop-j
-decreases-loop-j l = l.j
+invariant-loop-j l = (link_below l.table (records l.table) l.initial.links ≡ link_below l.table l.j l.links) × (length l.links ≡ length l.initial.links)

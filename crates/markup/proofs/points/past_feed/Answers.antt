@@ -1,19 +1,17 @@
 use native.Mathlib.Omega.{arith}
-use Rattle.markup.proofs.Nexts.{inside, past_end, past_bad, past-feed, past_other}
+use Rattle.markup.proofs.Nexts.{past_line, past_one, past_none, feed_inside}
 use borrow.Author.Rules.{rules}
 use Rattle.markup.proofs.points.past_feed.Goals as goal
 
 pub overflow_add-result : goal.overflow_add-result
-overflow_add-result c = omega (arith, inside _ _ _ _ _ c.if-j-s.true c.char_from-x.ensures c.in-Point.is)
+overflow_add-result c =
+    omega (arith, feed_inside c.args.s.now c.args.j c.in-Some-eq10-default.field-0-0 c.in-Some-eq10-default.n c.char_from.ensures c.in-Some-eq10-default.is c.in-Some-eq10-default.field-0-0-test)
 
-pub returns-then-c-eq10 : goal.returns-then-c-eq10
-returns-then-c-eq10 c = search (rules, past-feed)
-
-pub returns-else-c-eq10 : goal.returns-else-c-eq10
-returns-else-c-eq10 c = search (rules, past_other)
+pub returns-in-Some-eq10-default : goal.returns-in-Some-eq10-default
+returns-in-Some-eq10-default c = search (rules, past_line)
 
 pub returns-in_default : goal.returns-in_default
-returns-in_default c = search (rules, past_bad)
+returns-in_default c = search (rules, past_one)
 
-pub returns-else-j-s : goal.returns-else-j-s
-returns-else-j-s c = search (rules, past_end)
+pub returns-in_default-2 : goal.returns-in_default-2
+returns-in_default-2 c = search (rules, past_none)

@@ -1,4 +1,3 @@
-use mathlib.Core.Path.{refl}
 use Rattle.payment.proofs.Walking.{walked_on}
 use Rattle.settlement.specs.Payments.{joined}
 use Rattle.text.specs.Utf8.{bytes, encode}
@@ -7,4 +6,4 @@ use Rattle.payment.proofs.accounts.hold_account.Goals as goal
 
 pub returns : goal.returns
 unfolding joined bytes encode
-returns c = λ x e u. walked_on refl c.put_waiting.ensures (said_none e _) (rw (c.kid_text.ensures, c.account_of.ensures)) x u
+returns c = λ x e u. walked_on c.put_waiting.ensures (said_none e) (rw (c.kid_text.ensures, c.account_of.ensures)) x u

@@ -1,9 +1,8 @@
-use Rattle.report.specs.Encoding.{held_row}
-use Rattle.report.proofs.RowsOf.{rows_none, rows_one}
+use Rattle.report.proofs.Holding.{holds_none}
 use Rattle.payment.proofs.accounts.put_waiting.Goals as goal
 
-pub returns-in-Nothing : goal.returns-in-Nothing
-returns-in-Nothing c = rw c.in-Nothing.is (rows_none held_row _ _)
+pub returns-in-Some : goal.returns-in-Some
+returns-in-Some c = rw c.in-Some.is c.hold_transfer.ensures
 
-pub returns-in-Account : goal.returns-in-Account
-returns-in-Account c = rw c.in-Account.is (rows_one held_row _ c.put_transfer.ensures)
+pub returns-in_default : goal.returns-in_default
+returns-in_default c = rw c.in_default.is (holds_none _)

@@ -5,4 +5,4 @@ use Rattle.payment.proofs.card_or_debit.leave_out.Goals as goal
 
 pub returns : goal.returns
 unfolding not_held
-returns c = walked_said refl refl refl c.not_held.ensures
+returns c = walked_said refl c.not_held.ensures

@@ -5,4 +5,4 @@ use Rattle.payment.proofs.card_or_debit.with_means.Goals as goal
 
 pub returns : goal.returns
 unfolding with_means
-returns c = walked_still refl refl
+returns c = walked_still refl

@@ -5,9 +5,9 @@ use Rattle.printed.specs.Numbers.{line_count}
 use Rattle.printed.proofs.Counting.{in_list}
 use Rattle.printed.proofs.count.line_count.Goals as goal
 
-pub returns-then-refused : goal.returns-then-refused
+pub returns-then-is_refused : goal.returns-then-is_refused
 unfolding line_count
-returns-then-refused c = simp (← c.is_refused-refused.ensures, c.if-refused.true)
+returns-then-is_refused c = simp (← c.is_refused.ensures, c.if-is_refused.true)
 
 pub overflow_add-result : goal.overflow_add-result
 overflow_add-result c =
@@ -23,4 +23,4 @@ overflow_add-result-3 c =
 
 pub returns : goal.returns
 unfolding line_count
-returns c = simp (c.unmapped_count-u.ensures, c.entry_count-e.ensures, c.held_count-h.ensures, ← c.is_refused-refused.ensures, c.if-refused.false)
+returns c = simp (c.row_count-u.ensures, c.row_count-e.ensures, c.row_count-h.ensures, ← c.is_refused.ensures, c.if-is_refused.false)

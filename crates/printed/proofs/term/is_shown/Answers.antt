@@ -1,33 +1,37 @@
-use mathlib.Core.Bool.{true, ◌&&◌}
 use mathlib.Core.Path.{refl, ap}
+use mathlib.Core.Bool.{true, not, ◌&&◌}
+use lib.Dec.{eqb}
 use Rattle.fields.specs.Columns.{column_of}
-use Rattle.fields.proofs.Showing.{letter_other}
 use Rattle.printed.specs.Numbers.{there, is_natural, is_shown}
-use Rattle.printed.proofs.Putting.{letter_is}
+use Rattle.printed.proofs.Putting.{column_is, both_true, first_false}
 use Rattle.printed.proofs.term.is_shown.Goals as goal
 
-pub returns-in-116 : goal.returns-in-116
-unfolding column_of is_shown
-returns-in-116 c =
-    letter_is _ (λ a b. is_natural a && is_natural b) (ap column_of c.in-116.is) refl c.number_at-a.type_inv c.number_at-a.ensures c.number_at-b.type_inv c.number_at-b.ensures c.is_text.ensures
-
-pub returns-in-97 : goal.returns-in-97
-unfolding column_of is_shown
-returns-in-97 c =
-    letter_is _ (λ a b. there a) (ap column_of c.in-97.is) refl c.number_at-a.type_inv c.number_at-a.ensures c.number_at-b.type_inv c.number_at-b.ensures c.is_amount.ensures
-
-pub returns-in-112 : goal.returns-in-112
-unfolding column_of is_shown
-returns-in-112 c =
-    letter_is _ (λ a b. is_natural b) (ap column_of c.in-112.is) refl c.number_at-a.type_inv c.number_at-a.ensures c.number_at-b.type_inv c.number_at-b.ensures c.is_natural.ensures
-
-pub returns-in-100 : goal.returns-in-100
-unfolding column_of is_shown
-returns-in-100 c =
-    letter_is _ (λ a b. is_natural a) (ap column_of c.in-100.is) refl c.number_at-a.type_inv c.number_at-a.ensures c.number_at-b.type_inv c.number_at-b.ensures c.is_natural-in-100.ensures
-
-pub returns-in_default : goal.returns-in_default
+pub returns-then-is_natural : goal.returns-then-is_natural
 unfolding is_shown
-returns-in_default c =
-    let n = c.in_default.in_default-own.rest in
-    letter_is _ (λ a b. true) (letter_other _ n.0.0.0.1 n.0.0.1 n.0.1 n.1) refl c.number_at-a.type_inv c.number_at-a.ensures c.number_at-b.type_inv c.number_at-b.ensures refl
+returns-then-is_natural c =
+    column_is _ (λ a b. is_natural a && is_natural b) (ap column_of c.in-Text.is) refl c.number_at-a.type_inv c.number_at-a.ensures c.number_at-b.type_inv c.number_at-b.ensures (both_true c.is_natural.ensures c.if-is_natural.true c.is_natural-then-is_natural.ensures)
+
+pub returns-else-is_natural : goal.returns-else-is_natural
+unfolding is_shown
+returns-else-is_natural c =
+    column_is _ (λ a b. is_natural a && is_natural b) (ap column_of c.in-Text.is) refl c.number_at-a.type_inv c.number_at-a.ensures c.number_at-b.type_inv c.number_at-b.ensures (first_false _ c.is_natural.ensures c.if-is_natural.false)
+
+pub returns-in-Amount : goal.returns-in-Amount
+unfolding is_shown
+returns-in-Amount c =
+    column_is _ (λ a b. there a) (ap column_of c.in-Amount.is) refl c.number_at-a.type_inv c.number_at-a.ensures c.number_at-b.type_inv c.number_at-b.ensures (ap (λ k. not (eqb k 0)) c.natural.ensures)
+
+pub returns-in-Percent : goal.returns-in-Percent
+unfolding is_shown
+returns-in-Percent c =
+    column_is _ (λ a b. is_natural b) (ap column_of c.in-Percent.is) refl c.number_at-a.type_inv c.number_at-a.ensures c.number_at-b.type_inv c.number_at-b.ensures c.is_natural-in-Percent.ensures
+
+pub returns-in-Date : goal.returns-in-Date
+unfolding is_shown
+returns-in-Date c =
+    column_is _ (λ a b. is_natural a) (ap column_of c.in-Date.is) refl c.number_at-a.type_inv c.number_at-a.ensures c.number_at-b.type_inv c.number_at-b.ensures c.is_natural-in-Date.ensures
+
+pub returns-in-Plain : goal.returns-in-Plain
+unfolding is_shown
+returns-in-Plain c =
+    column_is _ (λ a b. true) (ap column_of c.in-Plain.is) refl c.number_at-a.type_inv c.number_at-a.ensures c.number_at-b.type_inv c.number_at-b.ensures refl

@@ -13,12 +13,12 @@ unfolding outcome call_refusal unknown_mode unknown_rules
 returns-then-rules-gt4095 c = rw (le-ltb _ _ c.if-mode-gt1.false, lt-ltb _ _ c.if-rules-gt4095.true) (refused_answered c.refused-then-rules-gt4095.ensures _ _ _)
 
 pub read_accepted-requires : goal.read_accepted-requires
-read_accepted-requires c = rw c.in-Accepted.is at (sym c.check-verdict.ensures)
+read_accepted-requires c = rw c.in-Ok.is at (sym c.check.ensures)
 
-pub returns-in-Refused : goal.returns-in-Refused
+pub returns-in-Err : goal.returns-in-Err
 unfolding outcome call_refusal unknown_mode unknown_rules
-returns-in-Refused c = rw (le-ltb _ _ c.if-mode-gt1.false, le-ltb _ _ c.if-rules-gt4095.false, ← c.check-verdict.ensures, c.in-Refused.is) (refused_answered c.refused-in-Refused.ensures _ _ _)
+returns-in-Err c = rw (le-ltb _ _ c.if-mode-gt1.false, le-ltb _ _ c.if-rules-gt4095.false, ← c.check.ensures, c.in-Err.is) (refused_answered c.refused-in-Err.ensures _ _ _)
 
-pub returns-in-Accepted : goal.returns-in-Accepted
+pub returns-in-Ok : goal.returns-in-Ok
 unfolding outcome call_refusal unknown_mode unknown_rules
-returns-in-Accepted c = rw (le-ltb _ _ c.if-mode-gt1.false, le-ltb _ _ c.if-rules-gt4095.false, ← c.check-verdict.ensures, c.in-Accepted.is) c.read_accepted.ensures
+returns-in-Ok c = rw (le-ltb _ _ c.if-mode-gt1.false, le-ltb _ _ c.if-rules-gt4095.false, ← c.check.ensures, c.in-Ok.is) c.read_accepted.ensures

@@ -1,5 +1,12 @@
 use Rattle.std.proofs.Common.{rules, tests}
+use Rattle.report.specs.Encoding.{held_row}
 use Rattle.report.proofs.held.put_allowance_charge.Goals as goal
+use Rattle.report.proofs.held.put_allowance_charge.Goals.{then-charge, else-charge}
 
 pub returns : goal.returns
-returns c = search (tests, rules)
+unfolding held_row
+returns c =
+    elim c.if-charge.branch [
+      | then-charge w ↦ search (tests, rules)
+      | else-charge w ↦ search (tests, rules)
+    ]

@@ -8,5 +8,5 @@ use Rattle.steps.proofs.billing.payment.Goals as goal
 pub returns : goal.returns
 unfolding step_by act_by own home same_kind
 returns c L p t m =
-    let acted = c.filled_in-said.ensures in
+    let acted = c.filled_in-payment.ensures in
     record { state = lanes refl refl refl refl refl acted.same refl refl refl refl refl refl refl refl refl; held = acted.held; said = acted.said; noted = acted.noted }

@@ -8,5 +8,5 @@ use Rattle.steps.proofs.billing.period.Goals as goal
 pub returns : goal.returns
 unfolding step_by act_by own period_of home same_kind
 returns c currency p t m h u =
-    let said = c.period-said.ensures in
-    record { state = lanes refl refl refl refl refl refl refl said.same refl refl refl refl refl refl refl; held = none_held refl refl h; said = said.said; noted = none_noted refl refl _ u }
+    let said = c.period-period.ensures in
+    record { state = lanes refl refl refl refl refl refl refl said.same refl refl refl refl refl refl refl; held = none_held refl h; said = said.said; noted = none_noted refl _ u }

@@ -1,16 +1,10 @@
-use mathlib.Core.Path.{refl}
-use Rattle.table.proofs.Scans.{scan_on, scan_hit, scan_end}
-use Rattle.table.proofs.Kin.{first-named, found_hit}
+use Rattle.std.proofs.Common.{rules, tests, ap, ◌∙◌}
+use Rattle.table.specs.Table.{kin_named, found}
+use Rattle.table.proofs.Scans.{first_in_range}
+use Rattle.table.proofs.Kin.{found_kin}
 use Rattle.table.proofs.record.find.Goals as goal
 
-pub loop-j-init : goal.loop-j-init
-loop-j-init c = first-named _ _ _ _ _ _ refl
-
-pub returns-then-is_kin_named : goal.returns-then-is_kin_named
-returns-then-is_kin_named c = search (found_hit, scan_hit)
-
-pub loop-j-preserved : goal.loop-j-preserved
-loop-j-preserved c = search scan_on
-
 pub returns : goal.returns
-returns c = search scan_end
+returns c =
+    let t = c.args.table.now in
+    ap found c.unwrap_or.ensures ∙ found_kin t c.args.text.now c.args.kind c.args.i c.args.want.now c.count.result c.count.ensures c.find.result (first_in_range (kin_named t c.args.text.now c.args.kind c.args.i c.args.want.now) _ _ _ c.find.result c.find.ensures.ran (λ x b q h. (search rules, search (rules, tests))))

@@ -5,4 +5,4 @@ use Rattle.terms.proofs.debit.besides.Goals as goal
 
 pub returns : goal.returns
 unfolding besides
-returns c = record { means = refl; mandate = refl; creditor = refl; said = said_then c.say_lost-first.ensures c.say_lost.ensures }
+returns c = record { means = refl; mandate = refl; creditor = refl; said = said_then c.say_lost.ensures c.say_lost-2.ensures }

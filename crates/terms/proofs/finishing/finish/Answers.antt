@@ -10,5 +10,5 @@ returns c =
     let debit = c.debited-debit.ensures in
     record {
       terms = terms_made c.is_paid.ensures c.reference_text.ensures debit.means debit.mandate debit.creditor c.totals_or_none.ensures;
-      said = said_then c.say_totals-at.ensures debit.said;
+      said = said_then c.say_totals.ensures debit.said;
     }

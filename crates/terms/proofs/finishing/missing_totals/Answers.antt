@@ -5,5 +5,5 @@ use Rattle.terms.proofs.finishing.missing_totals.Goals as goal
 pub returns : goal.returns
 unfolding missing_totals
 returns c =
-    said_then (rw c.site-line.ensures at c.missing-at.ensures)
-    (said_then (rw c.site-taxable.ensures at c.missing-at-2.ensures) (said_then (rw c.site-gross.ensures at c.missing-at-3.ensures) (rw c.site-due.ensures at c.missing.ensures)))
+    said_then (rw c.site.ensures at c.missing.ensures)
+    (said_then (rw c.site-2.ensures at c.missing-2.ensures) (said_then (rw c.site-3.ensures at c.missing-3.ensures) (rw c.site-4.ensures at c.missing-4.ensures)))

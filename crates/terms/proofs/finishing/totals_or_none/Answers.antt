@@ -1,7 +1,7 @@
 use Rattle.terms.proofs.finishing.totals_or_none.Goals as goal
 
-pub returns-in-Absent : goal.returns-in-Absent
-returns-in-Absent c = rw c.in-Absent.is c.no_totals.ensures
+pub returns-in-None : goal.returns-in-None
+returns-in-None c = rw c.in-None.is c.no_totals.ensures
 
-pub returns-in-Of : goal.returns-in-Of
-returns-in-Of c = rw c.in-Of.is
+pub returns-in-Some : goal.returns-in-Some
+returns-in-Some c = rw c.in-Some.is

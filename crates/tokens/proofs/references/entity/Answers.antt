@@ -1,22 +1,18 @@
+use native.Mathlib.Omega.{arith}
 use Rattle.tokens.proofs.Entities.{is_lt, is_gt, is_a, is_quot, is_none}
 use Rattle.tokens.proofs.references.entity.Goals as goal
 
--- src/references.rt:52:9
-pub returns-then-c-eq108 : goal.returns-then-c-eq108
-returns-then-c-eq108 c = is_lt _ _ _ c.next-x.ensures c.if-c-eq108.true _ c.word_at-f.ensures _ c.meaning.ensures
+pub returns-in-108 : goal.returns-in-108
+returns-in-108 c = is_lt _ _ _ c.next-x.ensures c.in-108.is _ c.word_at.ensures _ c.meaning.ensures
 
--- src/references.rt:56:9
-pub returns-then-c-eq103 : goal.returns-then-c-eq103
-returns-then-c-eq103 c = is_gt _ _ _ c.next-x.ensures c.if-c-eq103.true _ c.word_at-f-then-c-eq103.ensures _ c.meaning-then-c-eq103.ensures
+pub returns-in-103 : goal.returns-in-103
+returns-in-103 c = is_gt _ _ _ c.next-x.ensures c.in-103.is _ c.word_at-in-103.ensures _ c.meaning-in-103.ensures
 
--- src/references.rt:59:9
-pub returns-then-c-eq97 : goal.returns-then-c-eq97
-returns-then-c-eq97 c = is_a _ _ _ c.next-x.ensures c.if-c-eq97.true _ c.entity_a.ensures
+pub returns-in-97 : goal.returns-in-97
+returns-in-97 c = is_a _ _ _ c.next-x.ensures c.in-97.is _ c.entity_a.ensures
 
--- src/references.rt:63:9
-pub returns-then-c-eq113 : goal.returns-then-c-eq113
-returns-then-c-eq113 c = is_quot _ _ _ c.next-x.ensures c.if-c-eq113.true _ c.word_at-f-then-c-eq113.ensures _ c.meaning-then-c-eq113.ensures
+pub returns-in-113 : goal.returns-in-113
+returns-in-113 c = is_quot _ _ _ c.next-x.ensures c.in-113.is _ c.word_at-in-113.ensures _ c.meaning-in-113.ensures
 
--- src/references.rt:44:1
-pub returns : goal.returns
-returns c = is_none _ _ _ c.next-x.ensures c.if-c-eq108.false c.if-c-eq103.false c.if-c-eq97.false c.if-c-eq113.false
+pub returns-in_default : goal.returns-in_default
+returns-in_default c = is_none _ _ _ c.next-x.ensures (λ e. omega arith) (λ e. omega arith) (λ e. omega arith) (λ e. omega arith)

@@ -1,45 +1,11 @@
-use Rattle.text.specs.Place.{all_names, names_in}
+use mathlib.Core.Path.{refl}
 use Rattle.text.specs.Utf8.{bytes, encode}
-use Rattle.text.proofs.Places.{meant_at, meant_none}
+use Rattle.text.proofs.Places.{meant_by}
 use Rattle.settlement.specs.Summation.{sums}
+use Rattle.totals.specs.State.{sum_is}
+use Rattle.totals.specs.declared.sum.Sum.TheVariants.{Unread}
 use Rattle.totals.proofs.sum.sum_named.Goals as goal
 
-pub returns-in-0 : goal.returns-in-0
-unfolding sums all_names names_in bytes encode
-returns-in-0 c = meant_at _ sums _ c.place_of.ensures 0 c.in-0.is
-
-pub returns-in-1 : goal.returns-in-1
-unfolding sums all_names names_in bytes encode
-returns-in-1 c = meant_at _ sums _ c.place_of.ensures 1 c.in-1.is
-
-pub returns-in-2 : goal.returns-in-2
-unfolding sums all_names names_in bytes encode
-returns-in-2 c = meant_at _ sums _ c.place_of.ensures 2 c.in-2.is
-
-pub returns-in-3 : goal.returns-in-3
-unfolding sums all_names names_in bytes encode
-returns-in-3 c = meant_at _ sums _ c.place_of.ensures 3 c.in-3.is
-
-pub returns-in-4 : goal.returns-in-4
-unfolding sums all_names names_in bytes encode
-returns-in-4 c = meant_at _ sums _ c.place_of.ensures 4 c.in-4.is
-
-pub returns-in-5 : goal.returns-in-5
-unfolding sums all_names names_in bytes encode
-returns-in-5 c = meant_at _ sums _ c.place_of.ensures 5 c.in-5.is
-
-pub returns-in-6 : goal.returns-in-6
-unfolding sums all_names names_in bytes encode
-returns-in-6 c = meant_at _ sums _ c.place_of.ensures 6 c.in-6.is
-
-pub returns-in-7 : goal.returns-in-7
-unfolding sums all_names names_in bytes encode
-returns-in-7 c = meant_at _ sums _ c.place_of.ensures 7 c.in-7.is
-
-pub returns-in-8 : goal.returns-in-8
-unfolding sums all_names names_in bytes encode
-returns-in-8 c = meant_at _ sums _ c.place_of.ensures 8 c.in-8.is
-
-pub returns-in_default : goal.returns-in_default
-unfolding sums all_names names_in bytes encode
-returns-in_default c = meant_none _ sums _ c.place_of.ensures c.in_default.in_default-own.rest
+pub returns : goal.returns
+unfolding sums bytes encode
+returns c = meant_by sum_is Unread c.args.name.now _ sums c.unwrap_or.ensures c.meaning_of.ensures refl

@@ -1,18 +1,14 @@
 use mathlib.Core.List.{List}
-use mathlib.Core.Path.{◌≡◌}
 use Prim.Native.Nat.{ℕ}
-use lib.IntN.{ℤ}
-use lib.ListN.{length}
-use Rattle.element.specs.LinkDoc.{link_doc}
+use Rattle.report.specs.declared.held.HeldRows.{HeldRows}
+use Rattle.element.specs.LinkDoc.{doc_of, lent_text}
+use Rattle.links.specs.Siblings.{siblings}
 use Rattle.values.specs.Sites.{lent_of}
-use Rattle.totals.specs.Reading.{currencies, Hears}
+use Rattle.totals.specs.Reading.{currencies, taxes_of, Hears}
 use Rattle.totals.proofs.Walks.{Walked}
 use Rattle.totals.proofs.summands.read_children.Given as goal
 
-abbrev pub invariant-loop-left : goal.invariant-loop-left
-invariant-loop-left l =
-    (length l.entries ≡ length l.initial.entries) × (length l.unmapped ≡ length l.initial.unmapped) × ((currency : List ℕ) (h : List ℤ) → Hears l.lent.mode currency (link_doc l.table l.text l.links) l.n l.firsts → Walked (lent_of l.lent currency) l.table l.text l.links (currencies l.read) l.n l.initial.next h l.initial.entries l.initial.unmapped l.left l.c l.taxes l.next l.entries l.unmapped)
-
-abbrev pub decreases-loop-left : goal.decreases-loop-left
-decreases-loop-left l =
-    l.left
+abbrev pub invariant-loop-c : goal.invariant-loop-c
+invariant-loop-c l =
+    goal.iterator-loop-c.can_next l.c-iterator × goal.iterator-loop-c.is_finite l.c-iterator ×
+    ((currency : List ℕ) (h : HeldRows) → Hears l.frame.lent.mode currency (doc_of l.doc) l.frame.n l.firsts → Walked (lent_of l.frame.lent currency) (doc_of l.doc) (lent_text l.doc) (currencies l.frame.read) l.frame.n h l.initial.entries l.initial.unmapped (siblings l.c-iterator) (taxes_of l.taxes) l.entries l.unmapped)

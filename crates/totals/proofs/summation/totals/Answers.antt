@@ -1,4 +1,3 @@
-use Rattle.std.proofs.Common.{rules, tests}
 use mathlib.Core.Path.{refl}
 use native.Mathlib.Omega.{arith}
 use Rattle.text.specs.Order.{equal}
@@ -9,19 +8,13 @@ use Rattle.amounts.proofs.Spelled.{required_told}
 use Rattle.totals.proofs.Walks.{totals_acted}
 use Rattle.totals.proofs.summation.totals.Goals as goal
 
-pub shape_of-entries : goal.shape_of-entries
-shape_of-entries c = search (tests, rules)
-
-pub shape_of-unmapped : goal.shape_of-unmapped
-shape_of-unmapped c = search (tests, rules)
-
 pub returns : goal.returns
 unfolding bytes encode equal place all_names names_in
 returns c =
-    let a = c.args in
+    let n = c.args.n in
     let kept = c.first_children.ensures in
-    λ h. totals_acted _ _ _ _ (c.sums-s.ensures h)
-    (required_told a.table.now a.text.now a.links.now a.n _ _ c.wanted-q.ensures (kid_kept _ _ _ _ _ _ 0 4 kept refl refl (omega arith)) c.required_amount-line.ensures)
-    (required_told a.table.now a.text.now a.links.now a.n _ _ c.wanted-q-2.ensures (kid_kept _ _ _ _ _ _ 1 4 kept refl refl (omega arith)) c.required_amount-taxable.ensures)
-    (required_told a.table.now a.text.now a.links.now a.n _ _ c.wanted-q-3.ensures (kid_kept _ _ _ _ _ _ 2 4 kept refl refl (omega arith)) c.required_amount-gross.ensures)
-    (required_told a.table.now a.text.now a.links.now a.n _ _ c.wanted-q-4.ensures (kid_kept _ _ _ _ _ _ 3 4 kept refl refl (omega arith)) c.required_amount-due.ensures)
+    λ h. totals_acted _ _ _ _ (c.sums-sums.ensures h)
+    (required_told _ _ _ n _ _ c.wanted-q.ensures (kid_kept _ _ _ _ _ _ 0 4 kept refl refl (omega arith)) c.required_amount-line.ensures)
+    (required_told _ _ _ n _ _ c.wanted-q-2.ensures (kid_kept _ _ _ _ _ _ 1 4 kept refl refl (omega arith)) c.required_amount-taxable.ensures)
+    (required_told _ _ _ n _ _ c.wanted-q-3.ensures (kid_kept _ _ _ _ _ _ 2 4 kept refl refl (omega arith)) c.required_amount-gross.ensures)
+    (required_told _ _ _ n _ _ c.wanted-q-4.ensures (kid_kept _ _ _ _ _ _ 3 4 kept refl refl (omega arith)) c.required_amount-due.ensures)

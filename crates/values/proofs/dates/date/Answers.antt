@@ -5,7 +5,7 @@ use Rattle.values.proofs.dates.date.Goals as goal
 
 pub returns-then-w-eq0 : goal.returns-then-w-eq0
 unfolding date_of
-returns-then-w-eq0 c = rw c.if-w-eq0.true (told_silent _ _)
+returns-then-w-eq0 c = rw c.if-w-eq0.true (told_silent _)
 
 pub returns : goal.returns
 unfolding date_of

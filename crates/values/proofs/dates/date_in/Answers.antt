@@ -8,7 +8,7 @@ use Rattle.values.proofs.dates.date_in.Goals as goal
 
 pub returns-then-d-eq0 : goal.returns-then-d-eq0
 unfolding reading.date_in bytes encode
-returns-then-d-eq0 c = rw (← c.kid-e.ensures, c.if-e-eq0.true, ← c.kid-d.ensures, c.if-d-eq0.true) (told_silent _ _)
+returns-then-d-eq0 c = rw (← c.kid-e.ensures, c.if-e-eq0.true, ← c.kid-d.ensures, c.if-d-eq0.true) (told_silent _)
 
 pub returns-then-e-eq0 : goal.returns-then-e-eq0
 unfolding reading.date_in spelling bytes encode

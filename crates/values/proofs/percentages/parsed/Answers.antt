@@ -1,11 +1,12 @@
 use Rattle.values.specs.Sites.{answered_at, percent_at}
+use Rattle.amount.proofs.Errors.{no_percentage}
 use Rattle.values.proofs.Telling.{told_silent, told_said}
 use Rattle.values.proofs.percentages.parsed.Goals as goal
 
-pub returns-in-Absent : goal.returns-in-Absent
+pub returns-in-Ok : goal.returns-in-Ok
 unfolding percent_at answered_at
-returns-in-Absent c = rw (← c.shown.ensures, ← c.parse_trimmed-answer.ensures, ← c.value_of-percent.ensures, c.in-Absent.is, ← c.message_of-message.ensures) (told_said c.say.ensures)
+returns-in-Ok c = rw (← c.shown.ensures, ← c.parse_trimmed.ensures, c.in-Ok.is) (told_silent _)
 
-pub returns-in-Of : goal.returns-in-Of
+pub returns-in-Err : goal.returns-in-Err
 unfolding percent_at answered_at
-returns-in-Of c = rw (← c.shown.ensures, ← c.parse_trimmed-answer.ensures, ← c.value_of-percent.ensures, c.in-Of.is) (told_silent _ _)
+returns-in-Err c = rw (← c.shown.ensures, ← c.parse_trimmed.ensures, c.in-Err.is, no_percentage c.in-Err.error, ← c.message_of.ensures) (told_said c.say.ensures)

@@ -2,10 +2,10 @@ use Rattle.values.specs.Sites.{percent_in}
 use Rattle.values.proofs.Telling.{told_silent}
 use Rattle.values.proofs.percentages.percent.Goals as goal
 
-pub returns-in-Absent : goal.returns-in-Absent
+pub returns-in-None : goal.returns-in-None
 unfolding percent_in
-returns-in-Absent c = rw c.in-Absent.is (told_silent _ _)
+returns-in-None c = rw c.in-None.is (told_silent _)
 
-pub returns-in-At : goal.returns-in-At
+pub returns-in-Some : goal.returns-in-Some
 unfolding percent_in
-returns-in-At c = rw c.in-At.is c.parsed.ensures
+returns-in-Some c = rw c.in-Some.is c.parsed.ensures

@@ -2,10 +2,10 @@ use Rattle.values.specs.Sites.{code_in}
 use Rattle.values.proofs.Telling.{told_silent}
 use Rattle.values.proofs.required_codes.required_code.Goals as goal
 
-pub returns-in-Absent : goal.returns-in-Absent
+pub returns-in-None : goal.returns-in-None
 unfolding code_in
-returns-in-Absent c = rw c.in-Absent.is (record { same = c.new.ensures; said = c.missing.ensures })
+returns-in-None c = rw c.in-None.is (record { same = c.new.ensures; said = c.missing.ensures })
 
-pub returns-in-At : goal.returns-in-At
+pub returns-in-Some : goal.returns-in-Some
 unfolding code_in
-returns-in-At c = rw c.in-At.is (told_silent _ _)
+returns-in-Some c = rw c.in-Some.is (told_silent _)

@@ -1,6 +1,0 @@
-use Rattle.settlement.specs.Values.{kid_text}
-use Rattle.element.proofs.kids.kid_text.Goals as goal
-
-pub returns : goal.returns
-unfolding kid_text
-returns c = rw (← c.kid.ensures) c.child_text.ensures

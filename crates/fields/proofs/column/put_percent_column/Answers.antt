@@ -1,8 +1,0 @@
-use Rattle.fields.proofs.Showing.{percent_absent, percent_there}
-use Rattle.fields.proofs.column.put_percent_column.Goals as goal
-
-pub returns-then-scale-lt0 : goal.returns-then-scale-lt0
-returns-then-scale-lt0 c = search percent_absent
-
-pub returns : goal.returns
-returns c = search percent_there

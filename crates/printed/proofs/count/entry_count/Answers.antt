@@ -1,6 +1,0 @@
-use Rattle.printed.specs.Numbers.{row_count}
-use Rattle.printed.proofs.count.entry_count.Goals as goal
-
-pub returns : goal.returns
-unfolding row_count
-returns c = simp (c.fewer.ensures, ← c.count_at.ensures)

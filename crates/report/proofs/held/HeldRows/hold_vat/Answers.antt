@@ -1,0 +1,6 @@
+use mathlib.Core.Path.{refl}
+use Rattle.report.proofs.Holding.{holds_one}
+use Rattle.report.proofs.held.HeldRows.hold_vat.Goals as goal
+
+pub returns : goal.returns
+returns c = holds_one refl c.put_vat-self.ensures

@@ -1,8 +1,0 @@
-use Rattle.names.proofs.Puts.{set_far, set_past}
-use Rattle.report.proofs.list.put_number.Goals as goal
-
-pub returns-then-list-at : goal.returns-then-list-at
-returns-then-list-at c = search set_far
-
-pub returns-then-list-at-2 : goal.returns-then-list-at-2
-returns-then-list-at-2 c = search set_past

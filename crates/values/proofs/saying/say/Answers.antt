@@ -1,7 +1,0 @@
-use Rattle.settlement.specs.Values.{entry}
-use Rattle.values.proofs.Telling.{said_one}
-use Rattle.values.proofs.saying.say.Goals as goal
-
-pub returns : goal.returns
-unfolding entry
-returns c = search said_one
