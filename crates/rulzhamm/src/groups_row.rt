@@ -98,12 +98,6 @@ pub(crate) fn put_means(row: &mut [i64], at: usize, m: Means) -> usize
 pub(crate) fn put_totals(row: &mut [i64], at: usize, t: Totals) -> usize
     ensures { Placed row.old at (totals_cells (totals_of t)) row.new result }
 {
-    let allowance = t.sums.allowance;
-    let charge = t.sums.charge;
-    let vat = t.sums.vat;
-    let accounting = t.sums.accounting;
-    let paid = t.sums.paid;
-    let rounding = t.sums.rounding;
     let cells: [i64; 16] = [
         t.line.to_minor_units(),
         amount_present(t.sums.allowance),
