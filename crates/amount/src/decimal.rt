@@ -99,7 +99,8 @@ fn start_step(b: u8) -> Walk
     }
 }
 
-// A byte more of the whole part: a digit, or the point.
+// A byte more of the whole part: a digit, or the point. What a state holds comes taken apart, by the `match`
+// of `step`.
 fn whole_step(negative: bool, digits: u32, size: u64, b: u8) -> Walk
     ensures { result ≡ whole_step negative digits size b }
 {

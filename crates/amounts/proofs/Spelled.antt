@@ -9,7 +9,6 @@ use Rattle.amount.specs.Amount as Money
 use Rattle.codes.specs.declared.rules.Rule.{Rule}
 use Rattle.names.specs.declared.message.Message.TheVariants as Message
 use Rattle.names.specs.declared.path.Path.{Path}
-use Rattle.names.specs.declared.term.Term.TheVariants as Term
 use Rattle.report.specs.Rows.{Place}
 use Rattle.settlement.specs.Document.{Doc, maybe}
 use Rattle.settlement.specs.TableDoc.{shows}
@@ -45,15 +44,15 @@ module _ (t x l : List ℕ) (mode e : ℕ) where
   heard_spelled currency s q = rw (amount_spelled currency s q, ← q)
 
   -- a tax total, blank or not
-  pub tax_spelled : {p : Place} → p ≡ own_text D mode e → answered_at (λ n. Message.TaxTotalUnreadable) (site Path.SummationTaxTotalAmount Term.None) p (Money.amount_of (shows x p)) ≡ tax_amount mode D e
+  pub tax_spelled : {p : Place} → p ≡ own_text D mode e → answered_at (λ n. Message.TaxTotalUnreadable) (site Path.SummationTaxTotalAmount none) p (Money.amount_of (shows x p)) ≡ tax_amount mode D e
   unfolding answered_at answered Money.parsed_amount tax_amount
   tax_spelled q = rw (q, own_shown t x l mode e)
 
 -- amounts of a child that was looked for by a name
 module _ (t x l : List ℕ) (n : ℕ) (w : List ℕ) where
-  pub amount_kid : {o : Option ℕ} (mode : ℕ) (currency : List ℕ) (s : Site) → o ≡ kid (link_doc t x l) n w → amount_found mode currency (link_doc t x l) s o ≡ amount mode currency (link_doc t x l) s n w
+  pub amount_kid : {o : Option ℕ} (L : Lent) (s : Site) → o ≡ kid (link_doc t x l) n w → amount_found L (link_doc t x l) s o ≡ amount L.mode L.currency (link_doc t x l) s n w
   unfolding amount_found amount
-  amount_kid mode currency s q = rw q
+  amount_kid L s q = rw q
 
   pub required_kid : {o : Option ℕ} (L : Lent) (q : Required) → o ≡ kid (link_doc t x l) n w → required_found L (link_doc t x l) q o ≡ required_amount L (link_doc t x l) q.rule q.group (site_of q.site) n w
   unfolding required_found missing_amount required_amount kid_text amount_found amount

@@ -36,8 +36,8 @@ unfoldable pub amount_beside : List ℕ → Doc ℕ Place → List ℕ → Site 
 amount_beside currency D x s e p = maybe (amount_at x s p) (amount_in currency x s p) (attribute D e (bytes "currencyID"))
 
 -- of a child, if there is one; `amount_kid`, and `required_kid` below, join it to the definition of the reading
-unfoldable pub amount_found : ℕ → List ℕ → Doc ℕ Place → Site → Option ℕ → Says Place (Option ℤ)
-amount_found mode currency D s o = maybe (none, []) (amount_of mode currency D s) o
+unfoldable pub amount_found : Lent → Doc ℕ Place → Site → Option ℕ → Says Place (Option ℤ)
+amount_found L D s o = maybe (none, []) (amount_of L.mode L.currency D s) o
 
 -- a required amount that is missing: 0, and message 9 with the path of its group
 unfoldable pub missing_amount : ℕ → Required → Says Place ℤ
@@ -46,7 +46,7 @@ missing_amount rules q = (pos 0, missing rules q.rule (record { path = q.group; 
 -- a required amount of a child, if there is one: missing where that has no text, failed is 0
 unfoldable pub required_found : Lent → Doc ℕ Place → Required → Option ℕ → Says Place ℤ
 required_found L D q o =
-    let a = amount_found L.mode L.currency D (site_of q.site) o in
+    let a = amount_found L D (site_of q.site) o in
     maybe (missing_amount L.rules q) (λ x. (or (pos 0) a.0, a.1)) (maybe none (text_in D L.mode) o)
 
 -- what a required amount is asked by: its rule, the path of its group, and its site

@@ -16,7 +16,7 @@ use amount::{AmountError, InvoiceAmount};
 use element::Document;
 use names::Message;
 use report::Place;
-use values::{Entries, Site};
+use values::{Entries, Lent, Site};
 
 // A message with the text that is its value.
 #[derive(Clone, Copy)]
@@ -54,6 +54,7 @@ fn parsed(doc: &Document, own: Place) -> Heard
 }
 
 // The amount that a trimmed text spells; anything else is told by one message.
+// One error for all is no less than the match on each in `parsed`.
 pub(crate) fn parsed_or(doc: &Document, own: Place, message: Message) -> Heard
     ensures { (s : reading.Site) → saying result s ≡ answered_at (λ n. message) s (place_of own) (money.amount_of (shows (lent_text doc.now) (place_of own))) }
 {
@@ -87,12 +88,12 @@ pub(crate) fn hear_text(doc: &Document, currency: &[u8], e: usize, own: Place) -
 }
 
 // What element e says as an amount: nothing where it has no text.
-pub fn hear(doc: &Document, mode: u32, currency: &[u8], e: usize) -> Heard
-    ensures { (s : reading.Site) → saying result s ≡ reading.amount_of mode currency.now (doc_of doc.now) s e }
+pub fn hear(doc: &Document, lent: &Lent, e: usize) -> Heard
+    ensures { (s : reading.Site) → saying result s ≡ reading.amount_of lent.now.mode lent.now.currency.now (doc_of doc.now) s e }
 {
-    match doc.text_in(mode, e) {
+    match doc.text_in(lent.mode, e) {
         None => Ok(None),
-        Some(own) => hear_text(doc, currency, e, own),
+        Some(own) => hear_text(doc, lent.currency, e, own),
     }
 }
 

@@ -1,5 +1,5 @@
-// The amounts of a settlement: of an element or of a child that was looked for (0: there is none), optional or
-// required, beside a currency or not, each with the entries that reading it makes.
+// The amounts of a settlement: of an element or of a child that was looked for (`None`: there is none),
+// optional or required, beside a currency or not, each with the entries that reading it makes.
 //
 // What an element says as an amount is decided first (`hear`) and then said (`tell`). A function that
 // has something to say is lent the entries with the place of the next one (`values::Entries`). A document is

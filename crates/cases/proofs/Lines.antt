@@ -1,10 +1,9 @@
 -- The loop over the numbers of a line.
-use mathlib.Core.Path.{◌≡◌, refl, sym, ◌∙◌, ap}
+use mathlib.Core.Path.{◌≡◌, sym, ◌∙◌, ap}
 use mathlib.Core.Bool.{Bool, true, false}
 use mathlib.Core.List.{List, [], ◌∷◌}
 use Prim.Native.Nat.{ℕ, ◌+◌, ◌≤◌, ◌<◌}
 use native.Mathlib.Omega.{arith}
-use native.Mathlib.Nat.{zero-add}
 use native.Mathlib.Numerals.{add-one}
 use lib.ListN.{length, get_or, drop, set, drop_of_length-le}
 use lib.Seq.{drop-cons}
@@ -16,9 +15,6 @@ use Rattle.cases.specs.Numbers.{grown, numbers_from, Listed}
 pub record Listing (s l₀ l : List ℕ) (k n i : ℕ) : Type 0 where
   pub now : put l₀ 0 (numbers_from 0 s) ≡ put l k (numbers_from n (drop i s))
   pub many : length (numbers_from 0 s) ≡ k + length (numbers_from n (drop i s))
-
-pub listing_start : (s l : List ℕ) → Listing s l l 0 0 0
-listing_start s l = record { now = refl; many = sym (zero-add (length (numbers_from 0 s))) }
 
 -- the numbers from i on: a digit, another byte, the end
 module _ (s : List ℕ) (n i : ℕ) where

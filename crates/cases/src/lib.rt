@@ -72,6 +72,7 @@ fn nibble_of(b: u8) -> Option<u8>
 }
 
 // The byte at i, and past the end 0, which is no digit and in no escape.
+// One call of the library, as the like in `characters` over another type.
 pub fn byte_at(s: &[u8], i: usize) -> u8
     ensures { result ≡ get_or s.now i 0 }
 {
@@ -147,7 +148,8 @@ pub(crate) fn put<T: Copy>(out: &mut [T], i: usize, x: T)
     }
 }
 
-// Puts the bytes of a text into out, with a byte for the hole, and answers how many there are.
+// Puts the bytes of a text into out, with a byte for the hole, and answers how many there are: the count is
+// the answer, for which `enumerate` would go through the text once more.
 #[tactic(auto, using(crate::proofs::Symbols::filling_fewer, crate::proofs::Symbols::filling_next, crate::proofs::Symbols::filling_last))]
 pub fn fill(s: &[u8], hole: u8, out: &mut [u8]) -> usize
     ensures { Filled hole s.now out.old out.new result }

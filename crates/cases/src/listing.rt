@@ -14,7 +14,9 @@ fn grow(n: u32, b: u8) -> u32
     n.saturating_mul(10).saturating_add(u32::from(b - b'0'))
 }
 
-// Puts the numbers of a line into out, and answers how many there are.
+// Puts the numbers of a line into out, which is made once for all lines, and answers how many there are.
+// A count by hand: `enumerate` counts bytes, and over the parts of `split` the proof did not close at
+// `loop-k-preserved`, which asks that they are the numbers.
 pub fn numbers(s: &[u8], out: &mut [u32]) -> usize
     ensures { Listed s.now out.old out.new result }
 {

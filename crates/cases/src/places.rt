@@ -9,7 +9,7 @@ fn first(s: &[u8], b: u8) -> Option<usize>
     s.iter().position(|c| *c == b)
 }
 
-// The place of the first byte b from a place on, the end where there is none.
+// The place of the first byte b from a place on, the end where there is none: it is where a line is cut.
 pub fn find(s: &[u8], from: usize, b: u8) -> usize
     ensures place { result ≡ from + index_of b (slice from (length s.now) s.now) }
     ensures low { from ≤ result }

@@ -64,10 +64,6 @@ stepped s i h n en = go (plain s i) refl (front (drop i s)) refl en
         (k.1, (λ z. absurd (omega arith), λ z. ap all_good (turn_chars s i h (Point c m) ex n q)))
 
 module _ (s : List ℕ) (i : ℕ) (h : i < length s) (n : ℕ) (en : n ≡ step s i) where
-  pub step_fits : i + n ≤ length s
-  unfolding Stepped
-  step_fits = (stepped s i h n en).0
-
   pub step_stop : utf8 s ≡ good_from s i → n ≡ 0 → false ≡ utf8 s
   unfolding Stepped
   step_stop e z = sym (e ∙ (stepped s i h n en).1.0 z)

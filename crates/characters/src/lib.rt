@@ -1,6 +1,7 @@
 // The characters of a text: UTF-8 (RFC 3629), white space, and trimming in two modes.
 //
-// Every function takes all bytes and all numbers. No public function has a `requires`, and the
+// A text and a place in it go side by side, as to the library's `is_char_boundary`: no call carries on what
+// another found. Every function takes all bytes and all numbers. No public function has a `requires`, and the
 // crate assumes nothing of its own.
 #![tactic(auto)]
 

@@ -26,7 +26,9 @@ fn widen(kept: Option<Span>, white: bool, i: usize, end: usize) -> Option<Span>
 }
 
 // One pass over the characters; the first that is none leaves s as it is. By hand, for the library's
-// characters are those of a text that a pass before has shown to be UTF-8.
+// characters are those of a text that a pass before has shown to be UTF-8. With an iterator of this crate's
+// own `overflow_add` is open, for of what is left only the list is known: each character would have to carry
+// its place and its end, which is no plainer.
 fn trim_each(s: &[u8], mode: u32) -> Span
     ensures { result ≡ trimmed mode s.now }
 {

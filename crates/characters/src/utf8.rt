@@ -8,6 +8,7 @@ ghost use Rattle.characters.specs.Characters.{is_scalar, tail, boundary, scalar,
 pub type Char = Option<(u32, usize)>;
 
 // The byte at i, and past the end 0, which continues no character.
+// One call of the library and a cast, for the arithmetic on characters.
 fn byte_at(s: &[u8], i: usize) -> u32
     ensures { result ≡ get_or s.now i 0 }
 {

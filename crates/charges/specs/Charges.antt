@@ -4,7 +4,6 @@ use Rattle.std.proofs.Math.Option.{Option, none, some}
 use Rattle.text.specs.Utf8.{bytes}
 use Rattle.names.specs.declared.message.Message.TheVariants as Message
 use Rattle.names.specs.declared.path.Path.{Path}
-use Rattle.names.specs.declared.term.Term.TheVariants as Term
 use Rattle.report.specs.Rows.{Place, AllowanceCharge}
 use Rattle.report.specs.Values.{allowance_charge_of}
 use Rattle.settlement.specs.Document.{Doc, maybe}
@@ -97,4 +96,4 @@ module _ (L : Lent) (D : Doc ℕ Place) where
   unfoldable pub logistics_says : ℕ → ℕ → Says Place (Option (AllowanceCharge Place))
   logistics_says g n =
       cond L.extension (some (logistics_row g n).0, (logistics_row g n).1)
-      (none, entry Message.LogisticsCharge (site Path.SettlementLogisticsCharge Term.None) none ∷ [])
+      (none, entry Message.LogisticsCharge (site Path.SettlementLogisticsCharge none) none ∷ [])

@@ -1,20 +1,16 @@
 // BG-20 document level allowance or BG-21 charge, by its indicator.
 ghost use Rattle.std.specs.Prelude.{◌≡◌};
-ghost use Rattle.names.specs.declared.path.Path.TheVariants as Path;
 ghost use Rattle.report.specs.Values.{allowance_charge_of};
 ghost use Rattle.settlement.specs.Tax.{category_paths};
-ghost use Rattle.settlement.specs.Values.{grouped};
 ghost use Rattle.element.specs.LinkDoc.{doc_of};
 ghost use Rattle.values.specs.Sites.{lent_of};
 ghost use Rattle.values.specs.Told.{Told};
-ghost use Rattle.amounts.specs.Amounts.{Wanted};
 ghost use Rattle.charges.specs.Charges.{group_terms_of, tax_paths_of, counts_of, row_says, allowance_charge_says};
 
 use crate::categories::required_trade_tax;
-use crate::grouping::group_terms;
+use crate::grouping::{group_terms, wanted_amount};
 use crate::indicators::is_charge;
 use crate::shapes::{Group, TaxPaths};
-use amounts::Required;
 use element::Document;
 use names::Path;
 use report::AllowanceCharge;
@@ -32,41 +28,30 @@ fn category_paths() -> TaxPaths
     }
 }
 
-// Where BT-92 or BT-99 stands.
-fn actual_amount(g: Group) -> Required
-    ensures { Wanted result g.amount_rule Path.SettlementAllowanceCharge (grouped Path.AllowanceChargeActualAmount g.amount g.index) }
-{
-    Required {
-        rule: g.amount_rule,
-        group: Path::SettlementAllowanceCharge,
-        site: values::grouped(Path::AllowanceChargeActualAmount, g.amount, g.index),
-    }
-}
-
 // The row of element n, in a group: category and rate, amount, base, percentage.
-fn row_in(
-    doc: &Document,
-    lent: Lent,
-    currency: &[u8],
-    entries: &mut Entries,
-    g: Group,
-    n: usize,
-) -> AllowanceCharge
-    ensures { Told (row_says (lent_of lent currency.now) (doc_of doc.now) (group_terms_of g) g.index n) entries.old (allowance_charge_of result) entries.new }
+fn row_in(doc: &Document, lent: &Lent, entries: &mut Entries, g: Group, n: usize) -> AllowanceCharge
+    ensures { Told (row_says (lent_of lent.now) (doc_of doc.now) (group_terms_of g) g.index n) entries.old (allowance_charge_of result) entries.new }
 {
-    let mut kids: [usize; 6] = [0; 6];
-    let names = b"\x10CategoryTradeTax\
-        \x0cActualAmount\
-        \x0bBasisAmount\
-        \x12CalculationPercent\
-        \x06Reason\x0aReasonCode";
-    doc.first_children(n, names, &mut kids);
+    let mut kids = [None; 6];
+    let names: [&[u8]; 6] = [
+        b"CategoryTradeTax",
+        b"ActualAmount",
+        b"BasisAmount",
+        b"CalculationPercent",
+        b"Reason",
+        b"ReasonCode",
+    ];
+    doc.first_children(n, &names, &mut kids);
     let [tax, actual, basis, share, reason, code] = kids;
     let tax = required_trade_tax(doc, lent, entries, category_paths(), g, tax);
-    let wanted = actual_amount(g);
-    let amount = amounts::required_amount(doc, lent, currency, entries, wanted, actual);
+    let wanted = wanted_amount(
+        g,
+        Path::SettlementAllowanceCharge,
+        Path::AllowanceChargeActualAmount,
+    );
+    let amount = amounts::required_amount(doc, lent, entries, wanted, actual);
     let site = values::grouped(Path::AllowanceChargeBasisAmount, g.base, g.index);
-    let base = amounts::amount(doc, lent.mode, currency, entries, site, basis);
+    let base = amounts::amount(doc, lent, entries, site, basis);
     let share = doc.child_text(lent.mode, share);
     let site = values::grouped(
         Path::AllowanceChargeCalculationPercent,
@@ -89,16 +74,15 @@ fn row_in(
 // charges.
 pub fn allowance_charge(
     doc: &Document,
-    lent: Lent,
-    currency: &[u8],
+    lent: &Lent,
     entries: &mut Entries,
     allowances: u32,
     charges: u32,
     n: usize,
 ) -> (bool, AllowanceCharge)
-    ensures { Told (allowance_charge_says (lent_of lent currency.now) (doc_of doc.now) (counts_of allowances charges) n) entries.old ((result.0, allowance_charge_of result.1)) entries.new }
+    ensures { Told (allowance_charge_says (lent_of lent.now) (doc_of doc.now) (counts_of allowances charges) n) entries.old ((result.0, allowance_charge_of result.1)) entries.new }
 {
     let charge = is_charge(doc, entries, n);
     let g = group_terms(charge, allowances, charges);
-    (charge, row_in(doc, lent, currency, entries, g, n))
+    (charge, row_in(doc, lent, entries, g, n))
 }

@@ -1,9 +1,9 @@
 // The VAT category and rate of an allowance or a charge.
 ghost use Rattle.std.specs.Prelude.{List, ℕ};
-ghost use Rattle.table.specs.Table.{found};
+ghost use Rattle.text.specs.Options.{option_of};
 ghost use Rattle.report.specs.Values.{place_of, percent_of};
 ghost use Rattle.element.specs.LinkDoc.{doc_of};
-ghost use Rattle.values.specs.Sites.{lent_of};
+ghost use Rattle.values.specs.Sites.{lent_for};
 ghost use Rattle.values.specs.Told.{Told};
 ghost use Rattle.charges.specs.Charges.{group_terms_of, tax_paths_of, no_category, category_found};
 
@@ -28,27 +28,29 @@ fn absent(entries: &mut Entries, rules: u32, parent: Path, g: Group) -> Category
 }
 
 // The category in a child e that was looked for.
-#[tactic(auto, using(element::proofs::Documents::found_is), unfolding(crate::specs::Charges::category_found, settlement::specs::Tax::category_in, groups::specs::Categories::category_says))]
+#[tactic(auto, unfolding(crate::specs::Charges::category_found, settlement::specs::Tax::category_in, groups::specs::Categories::category_says))]
 pub(crate) fn required_trade_tax(
     doc: &Document,
-    lent: Lent,
+    lent: &Lent,
     entries: &mut Entries,
     p: TaxPaths,
     g: Group,
-    e: usize,
+    e: Option<usize>,
 ) -> CategoryRate
-    ensures { (currency : List ℕ) → Told (category_found (lent_of lent currency) (doc_of doc.now) (tax_paths_of p) (group_terms_of g) g.index (found e)) entries.old ((place_of result.category, percent_of result.rate)) entries.new }
+    ensures { (currency : List ℕ) → Told (category_found (lent_for lent.now currency) (doc_of doc.now) (tax_paths_of p) (group_terms_of g) g.index (option_of e)) entries.old ((place_of result.category, percent_of result.rate)) entries.new }
 {
-    if e == 0 {
-        return absent(entries, lent.rules, p.parent, g);
+    match e {
+        None => absent(entries, lent.rules, p.parent, g),
+        Some(e) => {
+            let of = Category {
+                code: p.type_code,
+                whole: p.whole,
+                share: p.rate,
+                category: g.category,
+                rate: g.rate,
+                rule: g.category_rule,
+            };
+            groups::trade_tax(doc, lent, entries, of, g.index, e)
+        }
     }
-    let of = Category {
-        code: p.type_code,
-        whole: p.whole,
-        share: p.rate,
-        category: g.category,
-        rate: g.rate,
-        rule: g.category_rule,
-    };
-    groups::trade_tax(doc, lent, entries, of, g.index, e)
 }

@@ -1,11 +1,14 @@
 // The terms and rules of allowances and of charges.
 ghost use Rattle.std.specs.Prelude.{◌≡◌, true, false, cond};
 ghost use Rattle.settlement.specs.Tax.{group_terms};
+ghost use Rattle.settlement.specs.Values.{grouped};
+ghost use Rattle.amounts.specs.Amounts.{Wanted};
 ghost use Rattle.charges.specs.Charges.{group_terms_of};
 
 use crate::shapes::Group;
+use amounts::Required;
 use codes::Rule;
-use names::Term;
+use names::{Path, Term};
 
 // The charge BG-21 of an index. It and the allowance differ in constants alone, and stay two tables of them: one
 // function would take all seven.
@@ -48,4 +51,15 @@ pub(crate) fn group_terms(charge: bool, allowances: u32, charges: u32) -> Group
         return charge_group(charges);
     }
     allowance_group(allowances)
+}
+
+// The amount that a group must have (BT-92 or BT-99), by the path of the group and that of the amount.
+pub(crate) fn wanted_amount(g: Group, group: Path, path: Path) -> Required
+    ensures { Wanted result g.amount_rule group (grouped path g.amount g.index) }
+{
+    Required {
+        rule: g.amount_rule,
+        group,
+        site: values::grouped(path, g.amount, g.index),
+    }
 }

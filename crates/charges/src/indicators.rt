@@ -1,7 +1,7 @@
 // Whether an allowance or a charge is a charge: ChargeIndicator/Indicator.
 ghost use Rattle.std.specs.Prelude.{◌≡◌};
 ghost use Rattle.codes.specs.Boolean.{boolean_of};
-ghost use Rattle.table.specs.Table.{found};
+ghost use Rattle.text.specs.Options.{option_of};
 ghost use Rattle.settlement.specs.TableDoc.{shows};
 ghost use Rattle.settlement.specs.Tax as reading;
 ghost use Rattle.settlement.specs.Values.{own_text};
@@ -9,19 +9,15 @@ ghost use Rattle.element.specs.LinkDoc.{doc_of, lent_text};
 ghost use Rattle.values.specs.Told.{Told};
 
 use element::Document;
-use names::{Message, Path, Term};
+use names::{Message, Path};
 use values::Entries;
 
-// The Indicator in the ChargeIndicator of element n, and 0 where there is none.
-#[tactic(auto, using(element::proofs::Documents::found_is), unfolding(settlement::specs::Tax::indicator, text::specs::Utf8::bytes, text::specs::Utf8::encode))]
-fn indicator(doc: &Document, n: usize) -> usize
-    ensures { found result ≡ reading.indicator (doc_of doc.now) n }
+// The Indicator in the ChargeIndicator of element n.
+#[tactic(auto, unfolding(settlement::specs::Tax::indicator, text::specs::Utf8::bytes, text::specs::Utf8::encode))]
+fn indicator(doc: &Document, n: usize) -> Option<usize>
+    ensures { option_of result ≡ reading.indicator (doc_of doc.now) n }
 {
-    let c = doc.kid(n, b"ChargeIndicator");
-    if c == 0 {
-        return 0;
-    }
-    doc.kid(c, b"Indicator")
+    doc.kid(doc.kid(n, b"ChargeIndicator")?, b"Indicator")
 }
 
 // What indicator i writes; what is no boolean is said and means an allowance.
@@ -32,7 +28,7 @@ fn indicated(doc: &Document, entries: &mut Entries, i: usize) -> bool
     match codes::parse_boolean(doc.shown(own)) {
         Some(charge) => charge,
         None => {
-            let site = values::site(Path::AllowanceChargeIndicator, Term::None);
+            let site = values::site(Path::AllowanceChargeIndicator, None);
             entries.say(Message::IndicatorMalformed, site, Some(own));
             false
         }
@@ -40,15 +36,16 @@ fn indicated(doc: &Document, entries: &mut Entries, i: usize) -> bool
 }
 
 // Whether element n is a charge; an absent indicator is said and means an allowance.
-#[tactic(auto, using(element::proofs::Documents::found_is, values::proofs::Telling::told_said), unfolding(settlement::specs::Tax::is_charge))]
+#[tactic(auto, using(values::proofs::Telling::told_said), unfolding(settlement::specs::Tax::is_charge))]
 pub(crate) fn is_charge(doc: &Document, entries: &mut Entries, n: usize) -> bool
     ensures { Told (reading.is_charge (doc_of doc.now) n) entries.old result entries.new }
 {
-    let i = indicator(doc, n);
-    if i == 0 {
-        let site = values::site(Path::AllowanceChargeIndicator, Term::None);
-        entries.say(Message::IndicatorAbsent, site, None);
-        return false;
+    match indicator(doc, n) {
+        Some(i) => indicated(doc, entries, i),
+        None => {
+            let site = values::site(Path::AllowanceChargeIndicator, None);
+            entries.say(Message::IndicatorAbsent, site, None);
+            false
+        }
     }
-    indicated(doc, entries, i)
 }

@@ -1,21 +1,17 @@
 // A logistics charge: BG-21 under the identifier of a conformant extension, else message 20.
 ghost use Rattle.std.specs.Prelude.{◌≡◌};
-ghost use Rattle.names.specs.declared.path.Path.TheVariants as Path;
 ghost use Rattle.report.specs.Values.{allowance_charge_of};
 ghost use Rattle.settlement.specs.Tax.{applied_paths};
-ghost use Rattle.settlement.specs.Values.{grouped};
 ghost use Rattle.element.specs.LinkDoc.{doc_of};
 ghost use Rattle.values.specs.Sites.{lent_of};
 ghost use Rattle.values.specs.Told.{Told};
-ghost use Rattle.amounts.specs.Amounts.{Wanted};
 ghost use Rattle.charges.specs.Charges.{tax_paths_of, maybe_charge_of, logistics_row, logistics_says};
 
 use crate::categories::required_trade_tax;
-use crate::grouping::charge_group;
-use crate::shapes::{Group, TaxPaths};
-use amounts::Required;
+use crate::grouping::{charge_group, wanted_amount};
+use crate::shapes::TaxPaths;
 use element::Document;
-use names::{Message, Path, Term};
+use names::{Message, Path};
 use report::AllowanceCharge;
 use values::{Entries, Lent};
 
@@ -31,36 +27,28 @@ fn applied_paths() -> TaxPaths
     }
 }
 
-// Where BT-99 of a logistics charge stands.
-fn applied_amount(g: Group) -> Required
-    ensures { Wanted result g.amount_rule Path.SettlementLogisticsCharge (grouped Path.LogisticsChargeAppliedAmount g.amount g.index) }
-{
-    Required {
-        rule: g.amount_rule,
-        group: Path::SettlementLogisticsCharge,
-        site: values::grouped(Path::LogisticsChargeAppliedAmount, g.amount, g.index),
-    }
-}
-
 // The row of a logistics charge n, the charge of this index: category and rate, amount.
 fn logistics_row(
     doc: &Document,
-    lent: Lent,
-    currency: &[u8],
+    lent: &Lent,
     entries: &mut Entries,
     index: u32,
     n: usize,
 ) -> AllowanceCharge
-    ensures { Told (logistics_row (lent_of lent currency.now) (doc_of doc.now) index n) entries.old (allowance_charge_of result) entries.new }
+    ensures { Told (logistics_row (lent_of lent.now) (doc_of doc.now) index n) entries.old (allowance_charge_of result) entries.new }
 {
-    let mut kids: [usize; 3] = [0; 3];
-    let names = b"\x0fAppliedTradeTax\x0dAppliedAmount\x0bDescription";
-    doc.first_children(n, names, &mut kids);
+    let mut kids = [None; 3];
+    let names: [&[u8]; 3] = [b"AppliedTradeTax", b"AppliedAmount", b"Description"];
+    doc.first_children(n, &names, &mut kids);
     let [tax, applied, description] = kids;
     let g = charge_group(index);
     let tax = required_trade_tax(doc, lent, entries, applied_paths(), g, tax);
-    let wanted = applied_amount(g);
-    let amount = amounts::required_amount(doc, lent, currency, entries, wanted, applied);
+    let wanted = wanted_amount(
+        g,
+        Path::SettlementLogisticsCharge,
+        Path::LogisticsChargeAppliedAmount,
+    );
+    let amount = amounts::required_amount(doc, lent, entries, wanted, applied);
     AllowanceCharge {
         amount,
         base: None,
@@ -76,18 +64,17 @@ fn logistics_row(
 #[tactic(auto, using(values::proofs::Telling::told_said), unfolding(crate::specs::Charges::logistics_says))]
 pub fn logistics_charge(
     doc: &Document,
-    lent: Lent,
-    currency: &[u8],
+    lent: &Lent,
     entries: &mut Entries,
     charges: u32,
     n: usize,
 ) -> Option<AllowanceCharge>
-    ensures { Told (logistics_says (lent_of lent currency.now) (doc_of doc.now) charges n) entries.old (maybe_charge_of result) entries.new }
+    ensures { Told (logistics_says (lent_of lent.now) (doc_of doc.now) charges n) entries.old (maybe_charge_of result) entries.new }
 {
     if lent.extension {
-        return Some(logistics_row(doc, lent, currency, entries, charges, n));
+        return Some(logistics_row(doc, lent, entries, charges, n));
     }
-    let site = values::site(Path::SettlementLogisticsCharge, Term::None);
+    let site = values::site(Path::SettlementLogisticsCharge, None);
     entries.say(Message::LogisticsCharge, site, None);
     None
 }

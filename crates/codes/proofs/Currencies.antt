@@ -117,6 +117,11 @@ pub codes_ascend : ascends [] codes ≡ true
 unfolding codes currency_codes bytes encode ascends
 codes_ascend = refl
 
+-- a search of the table answers that s is there just where s is listed
+pub member_listed : (s : List ℕ) (r : Result ℕ ℕ) → IsSearchInRange r (length codes) → IsBinarySearchResult (λ y. against y s) codes r → is_ok r ≡ listed s
+unfolding codes listed
+member_listed s r b h = found codes s r codes_ascend b h
+
 unfoldable threes : List (List ℕ) → Bool
 threes [] = true
 threes (t ∷ l) = eqb (length t) 3 && threes l

@@ -6,12 +6,7 @@ ghost use Rattle.codes.specs.Conformant.{contains, conformant};
 fn contains(s: &[u8], needle: &[u8]) -> bool
     ensures { result ≡ contains needle.now s.now }
 {
-    for i in 0..s.len() {
-        if s[i..].starts_with(needle) {
-            return true;
-        }
-    }
-    needle.is_empty()
+    needle.is_empty() || (0..s.len()).any(|i| s[i..].starts_with(needle))
 }
 
 // Whether a specification identifier names a conformant extension.

@@ -20,6 +20,7 @@ pub enum Rule {
 }
 
 // The bit of a rule in the rules number.
+// A cast, with the definitions' word for it: a rule has no other number, so that `From` would not say which.
 fn bit_of(rule: Rule) -> u32
     ensures { result ≡ bit_of rule }
 {

@@ -73,6 +73,7 @@ pub fn parse_trimmed(t: &[u8]) -> Result<u32, DateError>
 }
 
 // The date that s writes after it is trimmed in a mode.
+// The same call as of amounts and percentages, over errors of its own.
 pub fn parse(s: &[u8], mode: u32) -> Result<u32, DateError>
     ensures { date_answer result ≡ parsed_date mode s.now }
 {

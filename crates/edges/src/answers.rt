@@ -170,6 +170,7 @@ fn of_rule(rules: u32, named: Option<Rule>) -> Numbers
 }
 
 // What a leaf answers on a text, with the case's number.
+// A `match` on the leaf: no function is handed on.
 fn answer(leaf: Leaf, n: u32, s: &[u8]) -> Numbers
     ensures { result ≡ numbers (answer_of leaf n s.now) }
 {

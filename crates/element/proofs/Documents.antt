@@ -10,13 +10,16 @@ use borrow.Author.Tests.{eq-eqb, ne_eqb, le-leb, lt-leb, eqb-true, leb-true, leb
 use lib.Dec.{eqb, leb, ltb}
 use lib.ListN.{length, get_or, take, drop, replicate, length-drop}
 use lib.Seq.{take-take, drop-drop}
-use Rattle.text.specs.Place.{all_names, place}
+use Rattle.std.specs.Prelude.{Some, None}
+use Rattle.std.specs.declared.option.Option as code
+use Rattle.text.specs.Options.{option_of}
+use Rattle.text.specs.Place.{place}
 use Rattle.text.specs.Span.{clipped, cut}
 use Rattle.text.specs.declared.span.Span.{Span}
 use Rattle.characters.specs.Trim.{trimmed, trim_of}
 use Rattle.characters.proofs.Trims.{trimmed_in}
 use Rattle.amount.specs.Decimal.{empty}
-use Rattle.table.specs.Table.{cell, name_of, text_of, named, found, first_of}
+use Rattle.table.specs.Table.{cell, name_of, text_of, named, first_of}
 use Rattle.links.specs.Links.{linked, roomy, link_all, Blank}
 use Rattle.links.specs.Firsts.{keep_all}
 use Rattle.links.proofs.Linking.{linked_kids, linked_attrs}
@@ -31,22 +34,6 @@ use Rattle.element.specs.Trimmed.{trimmed_at}
 -- a place that was made of a record's numbers
 pub place_is : {a b s n : ℕ} → a ≡ s → b ≡ n → ◌≡◌ {A = Place} (record { start = a + 0; len = b }) (record { start = s; len = n })
 place_is {a} e f = rw (add-zero a, e, f)
-
--- a record but 0 stands for itself
-pub found_is : {k : ℕ} → (k ≡ 0 → ⊥) → found k ≡ some k
-found_is {k} z = go k z
-  where
-    go : (k : ℕ) → (k ≡ 0 → ⊥) → found k ≡ some k
-    go zero z = absurd (z refl)
-    go (suc k) z = refl
-
--- what is made of a record, and of none
-module _ {A : Type 0} (b : A) (f : ℕ → A) {o : Option ℕ} {k : ℕ} where
-  pub found_none : found k ≡ o → k ≡ 0 → maybe b f o ≡ b
-  found_none e z = rw (← e, z)
-
-  pub found_some : found k ≡ o → (k ≡ 0 → ⊥) → maybe b f o ≡ f k
-  found_some e z = rw (← e, found_is z)
 
 -- a part is no longer than was asked for
 clipped_short : (x : List ℕ) (a n : ℕ) → length (clipped x a n) ≤ n
@@ -169,8 +156,8 @@ module _ (t x l : List ℕ) where
   kid_is n w = first_is w (linked l 0 n)
 
   -- what one pass over the children keeps at the place of a name
-  pub kid_kept : {ks : List ℕ} (n : ℕ) (w v : List ℕ) (k m : ℕ) → ks ≡ keep_all t x l n w (replicate m 0) → place (all_names w) v ≡ k → ltb k (length (all_names w)) ≡ true → k < m → found (get_or ks k 0) ≡ kid D n v
-  kid_kept n w v k m q e h b = rw q (first_of_each t x l w v k e (ltb-true k (length (all_names w)) h) n m b ∙ kid_is n v)
+  pub kid_kept : {ks : List (code.Option ℕ)} (n : ℕ) (ws : List (List ℕ)) (v : List ℕ) (k m : ℕ) → ks ≡ keep_all t x l n ws (replicate m None) → place ws v ≡ k → ltb k (length ws) ≡ true → k < m → option_of (get_or ks k None) ≡ kid D n v
+  kid_kept n ws v k m q e h b = rw q (first_of_each t x l ws v k e (ltb-true k (length ws) h) n m b ∙ kid_is n v)
 
   -- the text of a child that was looked for by a name
   pub kid_text_is : {v : Option Place} {o : Option ℕ} (mode n : ℕ) (w : List ℕ) → v ≡ maybe none (text_in D mode) o → o ≡ kid D n w → v ≡ kid_text D mode n w
@@ -181,14 +168,13 @@ module _ (t x l : List ℕ) where
   pub text_in_made : {v : Option Place} {a n : ℕ} (mode r : ℕ) → a ≡ cell t r 4 → n ≡ cell t r 5 → v ≡ trimmed_at x mode a n → v ≡ text_in D mode r
   text_in_made mode r e f p = rw (e, f) at p ∙ text_in_is mode r
 
-  pub attribute_none : {k : ℕ} (n : ℕ) (w : List ℕ) → found k ≡ first_of (named t x w) (linked l 1 n) → k ≡ 0 → none ≡ attribute D n w
+  pub attribute_none : {o : code.Option ℕ} (n : ℕ) (w : List ℕ) → option_of o ≡ first_of (named t x w) (linked l 1 n) → o ≡ None → none ≡ attribute D n w
   unfolding attribute
   attribute_none n w e z = rw (← e, z)
 
-  pub attribute_made :
-      {v : Option Place} {k a m : ℕ} (n : ℕ) (w : List ℕ) → found k ≡ first_of (named t x w) (linked l 1 n) → (k ≡ 0 → ⊥) → a ≡ cell t k 4 → m ≡ cell t k 5 → v ≡ trimmed_at x 0 a m → v ≡ attribute D n w
+  pub attribute_made : {v : Option Place} {o : code.Option ℕ} {k : ℕ} (n : ℕ) (w : List ℕ) → option_of o ≡ first_of (named t x w) (linked l 1 n) → o ≡ Some k → v ≡ trimmed_at x 0 (cell t k 4) (cell t k 5) → v ≡ attribute D n w
   unfolding attribute
-  attribute_made {v} {k} n w e z f g p = rw (f, g) at p ∙ filled_is 0 (cell t k 4) (cell t k 5) ∙ ap (maybe none (filled D 0)) (sym (found_some none (λ i. some (text_at t i)) e z))
+  attribute_made {v} {o} {k} n w e z p = p ∙ filled_is 0 (cell t k 4) (cell t k 5) ∙ rw (← e, z) refl
 
 -- the same of its text as it stands
 module _ (t : List ℕ) (r : ℕ) where

@@ -5,7 +5,6 @@ ghost use Rattle.settlement.specs.Values as reading;
 ghost use Rattle.element.specs.LinkDoc.{doc_of};
 
 use crate::document::Document;
-use crate::texts::trimmed_at;
 use report::Place;
 use table::Field;
 
@@ -14,12 +13,9 @@ impl Document<'_> {
     pub fn attribute_text(&self, n: usize, want: &[u8]) -> Option<Place>
         ensures { text_of result ≡ (doc_of self.now).attr n want.now }
     {
-        let a = links::attribute(self.table, self.text, self.links, n, want);
-        if a == 0 {
-            return None;
-        }
-        let start = table::field_of(self.table, a, Field::TextStart);
-        let len = table::field_of(self.table, a, Field::TextLength);
+        let a = links::attribute(&self.table, self.links, n, want)?;
+        let start = self.table.field_of(a, Field::TextStart);
+        let len = self.table.field_of(a, Field::TextLength);
         Some(Place::new(start, 0, len))
     }
 
@@ -27,12 +23,7 @@ impl Document<'_> {
     pub fn attribute(&self, n: usize, want: &[u8]) -> Option<Place>
         ensures { text_of result ≡ reading.attribute (doc_of self.now) n want.now }
     {
-        let a = links::attribute(self.table, self.text, self.links, n, want);
-        if a == 0 {
-            return None;
-        }
-        let start = table::field_of(self.table, a, Field::TextStart);
-        let len = table::field_of(self.table, a, Field::TextLength);
-        trimmed_at(self.text, 0, start, len)
+        let a = links::attribute(&self.table, self.links, n, want)?;
+        self.trimmed(0, a)
     }
 }

@@ -1,7 +1,7 @@
 // Children of elements, by name.
 ghost use Rattle.std.specs.Prelude.{◌≡◌};
+ghost use Rattle.text.specs.Options.{option_of};
 ghost use Rattle.std.proofs.Math.Option.{none};
-ghost use Rattle.table.specs.Table.{found};
 ghost use Rattle.links.specs.Siblings.{siblings};
 ghost use Rattle.report.specs.Values.{text_of};
 ghost use Rattle.settlement.specs.Document.{maybe};
@@ -13,11 +13,11 @@ use links::Siblings;
 use report::Place;
 
 impl<'a> Document<'a> {
-    // The first child of a name of element n, and 0 where there is none: record 0 is nobody's child.
-    pub fn kid(&self, n: usize, want: &[u8]) -> usize
-        ensures { found result ≡ reading.kid (doc_of self.now) n want.now }
+    // The first child of a name of element n.
+    pub fn kid(&self, n: usize, want: &[u8]) -> Option<usize>
+        ensures { option_of result ≡ reading.kid (doc_of self.now) n want.now }
     {
-        links::first_child(self.table, self.text, self.links, n, want)
+        links::first_child(&self.table, self.links, n, want)
     }
 
     // The children of element n, in document order.
@@ -29,13 +29,10 @@ impl<'a> Document<'a> {
 
     // The text of a child that was looked for, trimmed in a mode; absent where there is no such child or its
     // text is blank.
-    pub fn child_text(&self, mode: u32, c: usize) -> Option<Place>
-        ensures { text_of result ≡ maybe none (reading.text_in (doc_of self.now) mode) (found c) }
+    pub fn child_text(&self, mode: u32, c: Option<usize>) -> Option<Place>
+        ensures { text_of result ≡ maybe none (reading.text_in (doc_of self.now) mode) (option_of c) }
     {
-        if c == 0 {
-            return None;
-        }
-        self.text_in(mode, c)
+        self.text_in(mode, c?)
     }
 
     // The text of the first child of a name of element n.
@@ -45,11 +42,11 @@ impl<'a> Document<'a> {
         self.child_text(mode, self.kid(n, want))
     }
 
-    // The first child of each of some names of element n, put at the name's place in an array lent with zeros,
-    // which stay where there is none. The names stand in a row, each after its length.
-    pub fn first_children(&self, n: usize, names: &[u8], firsts: &mut [usize])
+    // The first child of each of some names of element n, put at the name's place in a lent array, unless
+    // one is there.
+    pub fn first_children(&self, n: usize, names: &[&[u8]], firsts: &mut [Option<usize>])
         ensures { firsts.new ≡ firsts_of self.now n names.now firsts.old }
     {
-        links::first_children(self.table, self.text, self.links, n, names, firsts);
+        links::first_children(&self.table, self.links, n, names, firsts);
     }
 }

@@ -1,5 +1,6 @@
 // Texts and names of elements, and the bytes at their places.
 ghost use Rattle.std.specs.Prelude.{◌≡◌};
+ghost use Rattle.table.specs.Table.{cell};
 ghost use Rattle.report.specs.Values.{place_of, text_of};
 ghost use Rattle.settlement.specs.Values as reading;
 ghost use Rattle.element.specs.LinkDoc.{doc_of};
@@ -10,7 +11,7 @@ use report::Place;
 use table::Field;
 
 // What trimming in a mode leaves of a record's text from start on, absent where that is nothing.
-pub(crate) fn trimmed_at(text: &[u8], mode: u32, start: u32, len: u32) -> Option<Place>
+fn trimmed_at(text: &[u8], mode: u32, start: u32, len: u32) -> Option<Place>
     ensures { text_of result ≡ trimmed_at text.now mode start len }
 {
     let kept = characters::trim(text::clip(text, start as usize, len as usize), mode);
@@ -25,15 +26,15 @@ impl<'a> Document<'a> {
     pub fn shown(&self, p: Place) -> &'a [u8]
         ensures { result.now ≡ (doc_of self.now).bytes (place_of p) }
     {
-        p.bytes(self.text)
+        p.bytes(self.table.text)
     }
 
     // The name of element r.
     pub fn name(&self, r: usize) -> Place
         ensures { place_of result ≡ (doc_of self.now).name r }
     {
-        let start = table::field_of(self.table, r, Field::NameStart);
-        let len = table::field_of(self.table, r, Field::NameLength);
+        let start = self.table.field_of(r, Field::NameStart);
+        let len = self.table.field_of(r, Field::NameLength);
         Place::new(start, 0, len)
     }
 
@@ -41,21 +42,28 @@ impl<'a> Document<'a> {
     pub fn raw_text(&self, r: usize) -> Option<Place>
         ensures { text_of result ≡ (doc_of self.now).text r }
     {
-        let len = table::field_of(self.table, r, Field::TextLength);
+        let len = self.table.field_of(r, Field::TextLength);
         if len == 0 {
             return None;
         }
-        let start = table::field_of(self.table, r, Field::TextStart);
+        let start = self.table.field_of(r, Field::TextStart);
         Some(Place::new(start, 0, len))
     }
 
-    // The text of record r, trimmed in a mode; blank is absent.
+    // What trimming in a mode leaves of the text of record r, absent where that is nothing.
+    pub(crate) fn trimmed(&self, mode: u32, r: usize) -> Option<Place>
+        ensures { text_of result ≡ trimmed_at self.now.table.text.now mode (cell self.now.table.records.now r 4) (cell self.now.table.records.now r 5) }
+    {
+        let start = self.table.field_of(r, Field::TextStart);
+        let len = self.table.field_of(r, Field::TextLength);
+        trimmed_at(self.table.text, mode, start, len)
+    }
+
+    // The text of element r, trimmed in a mode; blank is absent.
     pub fn text_in(&self, mode: u32, r: usize) -> Option<Place>
         ensures { text_of result ≡ reading.text_in (doc_of self.now) mode r }
     {
-        let start = table::field_of(self.table, r, Field::TextStart);
-        let len = table::field_of(self.table, r, Field::TextLength);
-        trimmed_at(self.text, mode, start, len)
+        self.trimmed(mode, r)
     }
 
     // The same, empty where it is blank.

@@ -4,7 +4,7 @@ use mathlib.Core.List.{List}
 use mathlib.Core.Option.{Option}
 use Prim.Native.Nat.{ℕ}
 use Rattle.text.specs.Utf8.{bytes}
-use Rattle.table.specs.Table.{found}
+use Rattle.text.specs.Options.{option_of}
 use Rattle.report.specs.Rows.{Place}
 use Rattle.settlement.specs.Document.{Doc}
 use Rattle.settlement.specs.Shapes.{VatState}
@@ -24,7 +24,7 @@ module _ (t x l : List ℕ) (n : ℕ) where
 
   -- category and rate
   pub category_kids :
-      (mode rules : ℕ) (of : Category) (g : ℕ) (kids : CategoryKids) → found kids.kind ≡ kid D n (bytes "TypeCode") → found kids.code ≡ kid D n (bytes "CategoryCode") → found kids.rate ≡ kid D n (bytes "RateApplicablePercent") →
+      (mode rules : ℕ) (of : Category) (g : ℕ) (kids : CategoryKids) → option_of kids.kind ≡ kid D n (bytes "TypeCode") → option_of kids.code ≡ kid D n (bytes "CategoryCode") → option_of kids.rate ≡ kid D n (bytes "RateApplicablePercent") →
       category_found mode rules D x of g kids ≡ category_says mode rules D of g n
   unfolding category_found category_says
   category_kids mode rules of g kids a b c =

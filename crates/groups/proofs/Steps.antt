@@ -6,7 +6,7 @@ use mathlib.Core.Option.{Option, some}
 use Prim.Native.Nat.{ℕ}
 use lib.IntN.{ℤ}
 use Rattle.text.specs.Utf8.{bytes}
-use Rattle.table.specs.Table.{found}
+use Rattle.text.specs.Options.{option_of}
 use Rattle.codes.specs.declared.rules.Rule.TheVariants as Rule
 use Rattle.names.specs.declared.path.Path.TheVariants as Path
 use Rattle.names.specs.declared.term.Term.TheVariants as Term
@@ -30,7 +30,7 @@ module _ {e₀ e₁ e₂ : Entries} where
   -- a category: type code, category, rate
   pub category_told :
       {e₃ : Entries} {u v w : Site} {i j q : Option Place} {k : Place} {r : Option (ℤ × ℕ)} (mode rules : ℕ) (D : Doc ℕ Place) (x : List ℕ) (of : Category) (g : ℕ) (kids : CategoryKids) → u ≡ grouped of.code of.category g →
-      v ≡ grouped of.whole of.category g → w ≡ grouped of.share of.rate g → i ≡ text_found D 0 (found kids.kind) → j ≡ text_found D 0 (found kids.code) → q ≡ text_found D mode (found kids.rate) →
+      v ≡ grouped of.whole of.category g → w ≡ grouped of.share of.rate g → i ≡ text_found D 0 (option_of kids.kind) → j ≡ text_found D 0 (option_of kids.code) → q ≡ text_found D mode (option_of kids.rate) →
       Said (not_vat_in x u i) e₀ e₁ → Told (code_in rules of.rule v j) e₁ k e₂ → Told (percent_in x w q) e₂ r e₃ → Told (category_found mode rules D x of g kids) e₀ (k, r) e₃
   unfolding category_found
   category_told mode rules D x of g kids e f h i j q y z p =

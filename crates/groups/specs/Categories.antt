@@ -2,7 +2,7 @@
 use Rattle.std.specs.Prelude.{List, ◌++◌, ℕ, ℤ}
 use Rattle.std.proofs.Math.Option.{Option, none}
 use Rattle.text.specs.Utf8.{bytes}
-use Rattle.table.specs.Table.{found}
+use Rattle.text.specs.Options.{option_of}
 use Rattle.report.specs.Rows.{Place}
 use Rattle.settlement.specs.Document.{Doc, maybe}
 use Rattle.settlement.specs.Values.{Says, grouped, text_in, required_code, percent, not_vat}
@@ -17,9 +17,9 @@ text_found D mode o = maybe none (text_in D mode) o
 -- category and rate of children, if they are there, with what they say; `category_kids` joins it to the next
 unfoldable pub category_found : ℕ → ℕ → Doc ℕ Place → List ℕ → Category → ℕ → CategoryKids → Says Place (Place × Option (ℤ × ℕ))
 category_found mode rules D x of g kids =
-    let k = code_in rules of.rule (grouped of.whole of.category g) (text_found D 0 (found kids.code)) in
-    let r = percent_in x (grouped of.share of.rate g) (text_found D mode (found kids.rate)) in
-    ((k.0, r.0), not_vat_in x (grouped of.code of.category g) (text_found D 0 (found kids.kind)) ++ (k.1 ++ r.1))
+    let k = code_in rules of.rule (grouped of.whole of.category g) (text_found D 0 (option_of kids.code)) in
+    let r = percent_in x (grouped of.share of.rate g) (text_found D mode (option_of kids.rate)) in
+    ((k.0, r.0), not_vat_in x (grouped of.code of.category g) (text_found D 0 (option_of kids.kind)) ++ (k.1 ++ r.1))
 
 -- category and rate, with what they say: type code, category, rate
 unfoldable pub category_says : ℕ → ℕ → Doc ℕ Place → Category → ℕ → ℕ → Says Place (Place × Option (ℤ × ℕ))

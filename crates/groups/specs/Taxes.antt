@@ -34,12 +34,12 @@ unfoldable pub fresh_code_of : List ℕ → VatState Place → Place → Says Pl
 fresh_code_of x s p =
     let a = vat_point_date_code_of (shows x p) in (
       record { count = s.count; point = s.point; code = a.value; first = some p },
-      maybe (entry Message.UnknownVatPointCode (site Path.TradeTaxDueDateTypeCode Term.Bt8) (some p) ∷ []) (λ c. []) a.value,
+      maybe (entry Message.UnknownVatPointCode (site Path.TradeTaxDueDateTypeCode (some Term.Bt8)) (some p) ∷ []) (λ c. []) a.value,
     )
 
 -- a further code, said where it is not written as the first
 unfoldable pub again_code_of : List ℕ → VatState Place → Place → Place → Says Place (VatState Place)
-again_code_of x s p f = (s, cond (equal (shows x f) (shows x p)) [] (entry Message.SecondVatPointCode (site Path.SettlementTradeTaxDueDateTypeCode Term.Bt8) (some p) ∷ []))
+again_code_of x s p f = (s, cond (equal (shows x f) (shows x p)) [] (entry Message.SecondVatPointCode (site Path.SettlementTradeTaxDueDateTypeCode (some Term.Bt8)) (some p) ∷ []))
 
 -- no code, the first, or a further one
 unfoldable pub point_code_in : List ℕ → VatState Place → Option Place → Says Place (VatState Place)

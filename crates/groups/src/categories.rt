@@ -12,13 +12,13 @@ use values::{Entries, Lent};
 // not.
 pub(crate) fn category_of(
     doc: &Document,
-    lent: Lent,
+    lent: &Lent,
     entries: &mut Entries,
     of: Category,
     index: u32,
     kids: CategoryKids,
 ) -> CategoryRate
-    ensures { Told (category_found lent.mode lent.rules (doc_of doc.now) (lent_text doc.now) of index kids) entries.old ((place_of result.category, percent_of result.rate)) entries.new }
+    ensures { Told (category_found lent.now.mode lent.now.rules (doc_of doc.now) (lent_text doc.now) of index kids) entries.old ((place_of result.category, percent_of result.rate)) entries.new }
 {
     let kind = doc.child_text(0, kids.kind);
     let site = values::grouped(of.code, of.category, index);
@@ -35,17 +35,17 @@ pub(crate) fn category_of(
 // The category in element n.
 pub fn trade_tax(
     doc: &Document,
-    lent: Lent,
+    lent: &Lent,
     entries: &mut Entries,
     of: Category,
     index: u32,
     n: usize,
 ) -> CategoryRate
-    ensures { Told (category_says lent.mode lent.rules (doc_of doc.now) of index n) entries.old ((place_of result.category, percent_of result.rate)) entries.new }
+    ensures { Told (category_says lent.now.mode lent.now.rules (doc_of doc.now) of index n) entries.old ((place_of result.category, percent_of result.rate)) entries.new }
 {
-    let mut kids: [usize; 3] = [0; 3];
-    let names = b"\x08TypeCode\x0cCategoryCode\x15RateApplicablePercent";
-    doc.first_children(n, names, &mut kids);
+    let mut kids = [None; 3];
+    let names: [&[u8]; 3] = [b"TypeCode", b"CategoryCode", b"RateApplicablePercent"];
+    doc.first_children(n, &names, &mut kids);
     let [kind, code, rate] = kids;
     category_of(
         doc,

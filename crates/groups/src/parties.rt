@@ -32,39 +32,31 @@ fn identifier(doc: &Document, e: usize) -> Identifier
 }
 
 // The identifier in the first child ID of element n.
-#[tactic(auto, using(element::proofs::Documents::found_is), unfolding(crate::specs::Groups::kid_identifier, text::specs::Utf8::bytes, text::specs::Utf8::encode))]
+#[tactic(auto, unfolding(crate::specs::Groups::kid_identifier, text::specs::Utf8::bytes, text::specs::Utf8::encode))]
 fn kid_identifier(doc: &Document, n: usize) -> Option<Identifier>
     ensures { maybe_identifier_of result ≡ kid_identifier (doc_of doc.now) n }
 {
-    let e = doc.kid(n, b"ID");
-    if e == 0 {
-        return None;
-    }
+    let e = doc.kid(n, b"ID")?;
     Some(identifier(doc, e))
 }
 
 // The payee's identifier: GlobalID if there, else ID.
-#[tactic(auto, using(element::proofs::Documents::found_is), unfolding(crate::specs::Groups::payee_identifier, crate::specs::Groups::kid_identifier, text::specs::Utf8::bytes, text::specs::Utf8::encode))]
+#[tactic(auto, unfolding(crate::specs::Groups::payee_identifier, crate::specs::Groups::kid_identifier, text::specs::Utf8::bytes, text::specs::Utf8::encode))]
 fn payee_identifier(doc: &Document, n: usize) -> Option<Identifier>
     ensures { maybe_identifier_of result ≡ payee_identifier (doc_of doc.now) n }
 {
-    let e = doc.kid(n, b"GlobalID");
-    if e == 0 {
-        return kid_identifier(doc, n);
+    match doc.kid(n, b"GlobalID") {
+        Some(e) => Some(identifier(doc, e)),
+        None => kid_identifier(doc, n),
     }
-    Some(identifier(doc, e))
 }
 
 // The payee's legal registration: the ID of SpecifiedLegalOrganization.
-#[tactic(auto, using(element::proofs::Documents::found_is), unfolding(crate::specs::Groups::legal_identifier, text::specs::Utf8::bytes, text::specs::Utf8::encode))]
+#[tactic(auto, unfolding(crate::specs::Groups::legal_identifier, text::specs::Utf8::bytes, text::specs::Utf8::encode))]
 fn legal_identifier(doc: &Document, n: usize) -> Option<Identifier>
     ensures { maybe_identifier_of result ≡ legal_identifier (doc_of doc.now) n }
 {
-    let o = doc.kid(n, b"SpecifiedLegalOrganization");
-    if o == 0 {
-        return None;
-    }
-    kid_identifier(doc, o)
+    kid_identifier(doc, doc.kid(n, b"SpecifiedLegalOrganization")?)
 }
 
 // The payee that element n is.

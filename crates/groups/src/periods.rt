@@ -34,15 +34,11 @@ pub fn period(doc: &Document, mode: u32, entries: &mut Entries, n: usize) -> Per
 }
 
 // The text of the first child Description of element n as it stands, absent where there is none.
-#[tactic(auto, using(element::proofs::Documents::found_is), unfolding(crate::specs::Groups::note_of, text::specs::Utf8::bytes, text::specs::Utf8::encode))]
+#[tactic(auto, unfolding(crate::specs::Groups::note_of, text::specs::Utf8::bytes, text::specs::Utf8::encode))]
 fn description(doc: &Document, n: usize) -> Option<Place>
     ensures { text_of result ≡ note_of (doc_of doc.now) n }
 {
-    let e = doc.kid(n, b"Description");
-    if e == 0 {
-        return None;
-    }
-    doc.raw_text(e)
+    doc.raw_text(doc.kid(n, b"Description")?)
 }
 
 // The payment terms that element n is.

@@ -13,16 +13,16 @@ use values::{DatePaths, Entries, Lent};
 // The preceding invoice that element n is, the one of this index.
 pub fn preceding(
     doc: &Document,
-    lent: Lent,
+    lent: &Lent,
     entries: &mut Entries,
     index: u32,
     n: usize,
 ) -> Preceding
-    ensures { Told (preceding_says lent.mode lent.rules (doc_of doc.now) index n) entries.old (preceding_of result) entries.new }
+    ensures { Told (preceding_says lent.now.mode lent.now.rules (doc_of doc.now) index n) entries.old (preceding_of result) entries.new }
 {
-    let mut kids: [usize; 2] = [0; 2];
-    let names = b"\x10IssuerAssignedID\x16FormattedIssueDateTime";
-    doc.first_children(n, names, &mut kids);
+    let mut kids = [None; 2];
+    let names: [&[u8]; 2] = [b"IssuerAssignedID", b"FormattedIssueDateTime"];
+    doc.first_children(n, &names, &mut kids);
     let [id, issue] = kids;
     let id = doc.child_text(0, id);
     let site = values::grouped(Path::SettlementInvoiceReferencedDocument, Term::Bt25, index);

@@ -55,12 +55,12 @@ pub struct Category {
     pub rule: Rule,
 }
 
-// The children of a VAT category's element: type code, category code and rate, 0 where there is none.
+// The children of a VAT category's element: type code, category code and rate.
 #[derive(Clone, Copy)]
 pub struct CategoryKids {
-    pub kind: usize,
-    pub code: usize,
-    pub rate: usize,
+    pub kind: Option<usize>,
+    pub code: Option<usize>,
+    pub rate: Option<usize>,
 }
 
 // A VAT category and its rate.

@@ -1,10 +1,7 @@
 // BG-23 VAT breakdown, with the VAT point date and code of the invoice.
 ghost use Rattle.text.specs.Options.{option_of};
 ghost use Rattle.std.specs.Prelude.{◌≡◌};
-ghost use Rattle.table.specs.Table.{found};
-ghost use Rattle.codes.specs.declared.rules.Rule.TheVariants as Rule;
-ghost use Rattle.names.specs.declared.path.Path.TheVariants as Path;
-ghost use Rattle.names.specs.declared.term.Term.TheVariants as Term;
+ghost use Rattle.names.specs.declared.path.Path.TheVariants as PathOf;
 ghost use Rattle.report.specs.Values.{place_of, text_of, vat_of};
 ghost use Rattle.settlement.specs.Values.{grouped};
 ghost use Rattle.element.specs.LinkDoc.{doc_of, lent_text};
@@ -28,9 +25,9 @@ fn point_date(
     mode: u32,
     entries: &mut Entries,
     s: VatState,
-    e: usize,
+    e: Option<usize>,
 ) -> Option<u32>
-    ensures { Told (point_date_found mode (doc_of doc.now) (vat_state_of s) (found e)) entries.old (option_of result) entries.new }
+    ensures { Told (point_date_found mode (doc_of doc.now) (vat_state_of s) (option_of e)) entries.old (option_of result) entries.new }
 {
     match s.point {
         Some(day) => Some(day),
@@ -51,7 +48,7 @@ fn fresh_code(doc: &Document, entries: &mut Entries, s: VatState, p: Place) -> V
 {
     let code = codes::vat_point_date_code_from_cii(doc.shown(p));
     if code.is_none() {
-        let site = values::site(Path::TradeTaxDueDateTypeCode, Term::Bt8);
+        let site = values::site(Path::TradeTaxDueDateTypeCode, Some(Term::Bt8));
         entries.say(Message::UnknownVatPointCode, site, Some(p));
     }
     VatState {
@@ -72,7 +69,7 @@ fn again_code(
     ensures { Told (again_code_of (lent_text doc.now) (vat_state_of s) (place_of p) (place_of first)) entries.old (vat_state_of result) entries.new }
 {
     if !text::same(doc.shown(first), doc.shown(p)) {
-        let site = values::site(Path::SettlementTradeTaxDueDateTypeCode, Term::Bt8);
+        let site = values::site(Path::SettlementTradeTaxDueDateTypeCode, Some(Term::Bt8));
         entries.say(Message::SecondVatPointCode, site, Some(p));
     }
     s
@@ -97,10 +94,10 @@ fn point(
     mode: u32,
     entries: &mut Entries,
     s: VatState,
-    date: usize,
-    code: usize,
+    date: Option<usize>,
+    code: Option<usize>,
 ) -> VatState
-    ensures { Told (point_found mode (doc_of doc.now) (lent_text doc.now) (vat_state_of s) (found date) (found code)) entries.old (vat_state_of result) entries.new }
+    ensures { Told (point_found mode (doc_of doc.now) (lent_text doc.now) (vat_state_of s) (option_of date) (option_of code)) entries.old (vat_state_of result) entries.new }
 {
     let point = point_date(doc, mode, entries, s, date);
     let code = doc.child_text(0, code);
@@ -113,26 +110,14 @@ fn point(
     }
 }
 
-// Where BT-116 stands in the VAT breakdown of an index. It and that of BT-117 stay two tables of constants: one
-// function would take all that differ.
-fn taxable_amount(index: u32) -> Required
-    ensures { Wanted result Rule.Br45 Path.SettlementTradeTax (grouped Path.TradeTaxBasisAmount Term.Bt116 index) }
+// An amount that the VAT breakdown of an index must have, by its rule, its path and its term.
+fn wanted(rule: Rule, path: Path, term: Term, index: u32) -> Required
+    ensures { Wanted result rule PathOf.SettlementTradeTax (grouped path term index) }
 {
     Required {
-        rule: Rule::Br45,
+        rule,
         group: Path::SettlementTradeTax,
-        site: values::grouped(Path::TradeTaxBasisAmount, Term::Bt116, index),
-    }
-}
-
-// Where BT-117 does.
-fn tax_amount(index: u32) -> Required
-    ensures { Wanted result Rule.Br46 Path.SettlementTradeTax (grouped Path.TradeTaxCalculatedAmount Term.Bt117 index) }
-{
-    Required {
-        rule: Rule::Br46,
-        group: Path::SettlementTradeTax,
-        site: values::grouped(Path::TradeTaxCalculatedAmount, Term::Bt117, index),
+        site: values::grouped(path, term, index),
     }
 }
 
@@ -153,32 +138,39 @@ fn vat_category() -> Category
 // The VAT breakdown that element n is, after those counted so far, and what it makes of BT-7 and BT-8.
 pub fn vat_breakdown(
     doc: &Document,
-    lent: Lent,
-    currency: &[u8],
+    lent: &Lent,
     entries: &mut Entries,
     s: VatState,
     n: usize,
 ) -> (VatState, Vat)
-    ensures { Told (trade_tax_says (lent_of lent currency.now) (doc_of doc.now) (vat_state_of s) n) entries.old ((vat_state_of result.0, vat_of result.1)) entries.new }
+    ensures { Told (trade_tax_says (lent_of lent.now) (doc_of doc.now) (vat_state_of s) n) entries.old ((vat_state_of result.0, vat_of result.1)) entries.new }
 {
-    let mut kids: [usize; 9] = [0; 9];
-    let names = b"\x0cTaxPointDate\
-        \x0fDueDateTypeCode\
-        \x0bBasisAmount\x10CalculatedAmount\
-        \x08TypeCode\
-        \x0cCategoryCode\
-        \x15RateApplicablePercent\
-        \x0fExemptionReason\
-        \x13ExemptionReasonCode";
-    doc.first_children(n, names, &mut kids);
+    let mut kids = [None; 9];
+    let names: [&[u8]; 9] = [
+        b"TaxPointDate",
+        b"DueDateTypeCode",
+        b"BasisAmount",
+        b"CalculatedAmount",
+        b"TypeCode",
+        b"CategoryCode",
+        b"RateApplicablePercent",
+        b"ExemptionReason",
+        b"ExemptionReasonCode",
+    ];
+    doc.first_children(n, &names, &mut kids);
     let [date, due, basis, tax, kind, code, rate, reason, reason_code] = kids;
     let found = CategoryKids { kind, code, rate };
     let state = point(doc, lent.mode, entries, s, date, due);
     let index = s.breakdowns;
-    let wanted = taxable_amount(index);
-    let taxable = amounts::required_amount(doc, lent, currency, entries, wanted, basis);
-    let wanted = tax_amount(index);
-    let tax = amounts::required_amount(doc, lent, currency, entries, wanted, tax);
+    let q = wanted(Rule::Br45, Path::TradeTaxBasisAmount, Term::Bt116, index);
+    let taxable = amounts::required_amount(doc, lent, entries, q, basis);
+    let q = wanted(
+        Rule::Br46,
+        Path::TradeTaxCalculatedAmount,
+        Term::Bt117,
+        index,
+    );
+    let tax = amounts::required_amount(doc, lent, entries, q, tax);
     let category = category_of(doc, lent, entries, vat_category(), index, found);
     let vat = Vat {
         taxable,

@@ -2,20 +2,21 @@
 use mathlib.Core.Path.{◌≡◌, refl, sym, ap, ◌∙◌}
 use mathlib.Core.Bool.{true}
 use mathlib.Core.List.{List, [], ◌∷◌, map}
-use Prim.Native.Nat.{ℕ, suc, ◌+◌, ◌/◌, ◌%◌, ◌^◌, ◌≤◌, ◌<◌, ◌-◌, min}
+use Prim.Native.Nat.{ℕ, suc, ◌+◌, ◌/◌, ◌%◌, ◌^◌, ◌≤◌, ◌<◌}
 use native.Mathlib.Omega.{arith}
 use native.Mathlib.Nat.{zero-add}
 use borrow.Author.Tests.{ltb-true}
 use lib.Dec.{ltb}
 use lib.ListN.{length, get_or, take, drop, set, length-map}
 use lib.Seq.{take_at}
+use Rattle.std.proofs.Common.{take_all}
 use mir.Syntax.{w32}
 use Rattle.std.specs.Int.{from_le_bytes}
 use Rattle.std.specs.Simd.{first_chunks}
 use Rattle.std.proofs.lemmas.List.{get_or-map}
 use Rattle.text.proofs.Bools.{both}
 use Rattle.names.specs.Put.{put}
-use Rattle.names.proofs.Puts.{put_eq, put_some, put_turn}
+use Rattle.names.proofs.Puts.{put_eq, put_turn}
 use Rattle.inputs.specs.Given.{little_endian, numbers_of}
 use Rattle.inputs.specs.Places.{Listed}
 use Rattle.inputs.specs.Spelling.{all_fit, record_bytes}
@@ -49,17 +50,18 @@ numbers_read (a ∷ b ∷ c ∷ d ∷ s) =
     let q : length (a ∷ b ∷ c ∷ d ∷ s) / 4 ≡ suc (length s / 4) = omega arith in
     rw q (ap (λ (ns : List ℕ). little_endian a b c d ∷ ns) (numbers_read s))
 
--- the loop that puts the numbers of these four bytes each, where there is room: a turn, and the end
+-- the loop that puts the numbers of these four bytes each: a turn, and the end
 module _ (l : List ℕ) (cs : List (List ℕ)) where
-  pub numbers_turn : (k : ℕ) {v : ℕ} {m : List ℕ} (d : List ℕ) → k < length cs → m ≡ put l 0 (take k (map (from_le_bytes w32) cs)) → v ≡ from_le_bytes w32 (get_or cs k d) → set m k v ≡ put l 0 (take (k + 1) (map (from_le_bytes w32) cs))
-  numbers_turn k {v} {m} d h e q = put_turn l 0 (map (from_le_bytes w32) cs) 0 (rw length-map h) e (rw zero-add (ap (set m k) (q ∙ sym (get_or-map (from_le_bytes w32) cs k d 0 h))))
+  pub numbers_turn : (k : ℕ) {v : ℕ} {m m' : List ℕ} (d : List ℕ) → k < length cs → m ≡ put l 0 (take k (map (from_le_bytes w32) cs)) → v ≡ from_le_bytes w32 (get_or cs k d) → m' ≡ put m k (v ∷ []) → m' ≡ put l 0 (take (k + 1) (map (from_le_bytes w32) cs))
+  unfolding put
+  numbers_turn k {v} {m} d h e q z = put_turn l 0 (map (from_le_bytes w32) cs) 0 (rw length-map h) e (z ∙ rw zero-add (ap (set m k) (q ∙ sym (get_or-map (from_le_bytes w32) cs k d 0 h))))
 
-  pub numbers_end : (s : List ℕ) {k n : ℕ} {m : List ℕ} → cs ≡ first_chunks 4 (length s / 4) s → n ≡ min (length cs) (length l) → k ≤ n → n ≤ k → m ≡ put l 0 (take k (map (from_le_bytes w32) cs)) → Listed s l m (length cs)
-  numbers_end s {k} {n} {m} e q h g i =
+  pub numbers_end : (s : List ℕ) {k : ℕ} {m : List ℕ} → cs ≡ first_chunks 4 (length s / 4) s → length cs ≤ k → m ≡ put l 0 (take k (map (from_le_bytes w32) cs)) → Listed s l m (length cs)
+  numbers_end s {k} {m} e h q =
       let are : map (from_le_bytes w32) cs ≡ numbers_of s = ap (map (from_le_bytes w32)) e ∙ sym (numbers_read s) in
       let long : length cs ≡ length (numbers_of s) = sym (length-map cs (from_le_bytes w32)) ∙ ap length are in
-      let many : k ≡ min (length (numbers_of s)) (length l - 0) = omega arith in
-      record { now = rw are at i ∙ put_some l 0 (numbers_of s) (omega arith) many; many = long }
+      let all : take k (numbers_of s) ≡ numbers_of s = take_all k (numbers_of s) (omega arith) in
+      record { now = q ∙ rw (are, all) refl; many = long }
 
 -- what stands at the front of a table in which numbers were put
 module _ {s l l' : List ℕ} {n : ℕ} (f : Listed s l l' n) where

@@ -2,6 +2,7 @@
 ghost use Rattle.inputs.specs.Places.{Listed, Decided};
 
 use crate::input_line::{Fields, parse_line};
+use names::put;
 
 // The most bytes of a record file, which are 256 records, and of a text.
 const RECORDS: usize = 6144;
@@ -14,8 +15,10 @@ pub fn numbers_of(records: &[u8], table: &mut [u32]) -> usize
     ensures { Listed records.now table.old table.new result }
 {
     let (numbers, _) = records.as_chunks::<4>();
-    for k in 0..numbers.len().min(table.len()) {
-        table[k] = u32::from_le_bytes(numbers[k]);
+    // By `put`: with a `zip` of the table's `iter_mut` the proof does not close at `returns`, where nothing is
+    // known of what then stands in the table.
+    for (k, number) in numbers.iter().enumerate() {
+        put(table, k, &[u32::from_le_bytes(*number)]);
     }
     numbers.len()
 }

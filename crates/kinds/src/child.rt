@@ -97,6 +97,7 @@ const KINDS: [(&[u8], Kind); 14] = [
 ];
 
 // What a name stands for.
+// `meaning_of` is what this, `part_named` and `sum_named` share; the table and its enum are each one's own.
 fn kind_named(name: &[u8]) -> Kind
     ensures { kind_is result ≡ kind_named name.now }
 {

@@ -30,7 +30,8 @@ pub fn payment_means(
     *payment = payment::fill_in(doc, held, entries, unmapped, *payment, n);
 }
 
-// The same for a payment by value, which is lent from a local: callers that hold one need no variable.
+// The lent form on a payment held by value, as `steps` has it: what a caller that lends a local gets is what
+// `payment::fill_in` answers, whose contract this has.
 pub fn filled_in(
     doc: &Document,
     held: &mut HeldRows,

@@ -7,7 +7,7 @@ use mathlib.Core.Option.{Option, some}
 use Prim.Native.Nat.{ℕ, zero, suc, ◌*◌, ◌-◌, ◌/◌, ◌≤◌, ◌<◌}
 use native.Mathlib.Omega.{arith}
 use borrow.Author.Tests.{ne_eqb, le-leb, lt-leb}
-use lib.Dec.{eqb, leb}
+use lib.Dec.{leb}
 use lib.ListN.{length}
 use denote.Param.Members.{Mut}
 use denote.Ref.{Bor}
@@ -17,10 +17,11 @@ use Rattle.std.specs.Bool.{⊤}
 use Rattle.std.specs.Fn.{CalledAt}
 use Rattle.std.specs.Iterator.{YieldsThen, YieldsFirst}
 use Rattle.std.specs.List.{FoldsTo, find}
-use Rattle.std.specs.Option.{MatchOption, option_map, unwrap_or}
+use Rattle.std.specs.Option.{MatchOption, option_map}
 use Rattle.std.specs.Prelude.{Some, None}
 use Rattle.std.specs.declared.option.Option as code
-use Rattle.table.specs.Table.{records, cell, first_of, found}
+use Rattle.text.specs.Options.{option_of}
+use Rattle.table.specs.Table.{records, cell, first_of}
 use Rattle.links.specs.Siblings.{siblings}
 use Rattle.links.specs.declared.siblings.Siblings.{Siblings}
 use Rattle.links.specs.Links.{link, chain, linked, in_front, joins, link_one, link_below, roomy, link_all}
@@ -86,18 +87,9 @@ module _ (links : List ℕ) where
 
 -- a walk with a state s
 module _ {S : Type 0} (f : S → ℕ → S) (links : List ℕ) where
-  pub fold_start : (k i c : ℕ) (s : S) → c ≡ link links i k → foldl f s (linked links k i) ≡ foldl f s (chain links (length links / 3) c)
-  fold_start k i c s e = ap (foldl f s) (chain_start links k i c e)
-
   module _ (o s : S) (left c : ℕ) (e : o ≡ foldl f s (chain links left c)) where
     pub fold_turn : 0 < left → c ≢ 0 → (s' : S) → s' ≡ f s c → (d : ℕ) → d ≡ link links c 2 → o ≡ foldl f s' (chain links (left - 1) d)
     fold_turn h z s' q d u = e ∙ rw (chain_turn links left c h z, q, u)
-
-    pub fold_zero : c ≡ 0 → s ≡ o
-    fold_zero z = sym (e ∙ rw (z, chain_zero links left))
-
-    pub fold_out : left ≤ 0 → s ≡ o
-    fold_out h = let z : left ≡ 0 = omega arith in sym (e ∙ rw (z, chain_out links c))
 
 -- a search that goes on to the next record
 module _ (links : List ℕ) (p : ℕ → Bool) (o : Option ℕ) (left c : ℕ) (e : o ≡ first_of p (chain links left c)) where
@@ -105,34 +97,22 @@ module _ (links : List ℕ) (p : ℕ → Bool) (o : Option ℕ) (left c : ℕ) (
   unfolding first_of
   search_turn h z b q f d u = e ∙ rw (chain_turn links left c h z, ← q, f, u)
 
--- no record is 0 among those that links spell, so that a number stands for each
-chain_found : (p : ℕ → Bool) (links : List ℕ) (f c : ℕ) (r : code.Option ℕ) → r ≡ find p (chain links f c) → found (unwrap_or r 0) ≡ first_of p (chain links f c)
-unfolding chain first_of
-chain_found p links zero c r e = rw e refl
-chain_found p links (suc f) c r e = go (eqb c 0) refl e (chain_found p links f (link links c 2) r)
+-- what `find` answers over the list that links spell
+chain_found : (p : ℕ → Bool) (cs : List ℕ) → option_of (find p cs) ≡ first_of p cs
+unfolding first_of
+chain_found p [] = refl
+chain_found p (c ∷ cs) = go (p c) (chain_found p cs)
   where
-    rest : List ℕ
-    rest = chain links f (link links c 2)
-
-    here : (c : ℕ) → eqb c 0 ≡ false → found c ≡ some c
-    here zero e = cc
-    here (suc c) e = refl
-
-    go : (a : Bool) → eqb c 0 ≡ a → r ≡ find p (cond a [] (c ∷ rest)) → (r ≡ find p rest → found (unwrap_or r 0) ≡ first_of p rest) → found (unwrap_or r 0) ≡ first_of p (cond a [] (c ∷ rest))
-    go true z e h = rw e refl
-    go false z e h = at (p c) e
-      where
-        at : (b : Bool) → r ≡ cond b (Some c) (find p rest) → found (unwrap_or r 0) ≡ cond b (some c) (first_of p rest)
-        at true e = rw e (here c z)
-        at false e = h e
+    go : (b : Bool) → option_of (find p cs) ≡ first_of p cs → option_of (cond b (Some c) (find p cs)) ≡ cond b (some c) (first_of p cs)
+    go true e = refl
+    go false e = e
 
 -- what `find` answers over an iterator
 pub first_sibling : {F : Type 0} {g : Mut F (Bor ℕ × Unit {0}) Bool} (p : ℕ → Bool) (s u : Siblings) (f : F) (r : code.Option ℕ) →
     (xs : List ℕ) × (j : F) × YieldsThen (YieldsFirst siblings) s xs r u × FoldsTo (λ p x q. CalledAt g p x false q) f xs j × MatchOption r ⊤ (λ x. (h : F) × CalledAt g j x true h) →
-    ((x : ℕ) (b : Bool) (q : F) → CalledAt g f x b q → (q ≡ f) × (b ≡ p x)) → found (unwrap_or r 0) ≡ first_of p (siblings s)
-unfolding siblings
+    ((x : ℕ) (b : Bool) (q : F) → CalledAt g f x b q → (q ≡ f) × (b ≡ p x)) → option_of r ≡ first_of p (siblings s)
 first_sibling p s u f r e h =
-    chain_found p s.links.now s.left s.next r (same r ∙ find_from_yields_List p u f r e (YieldsList-from_first (λ x. x) siblings (siblings s) refl) h)
+    ap option_of (same r ∙ find_from_yields_List p u f r e (YieldsList-from_first (λ x. x) siblings (siblings s) refl) h) ∙ chain_found p (siblings s)
   where
     same : (r : code.Option ℕ) → r ≡ option_map (λ (x : ℕ). x) r
     same (Some x) = refl

@@ -5,10 +5,10 @@ ghost use Rattle.std.specs.Prelude.{◌≡◌, ◌+◌, ◌*◌, ◌≤◌, ◌<
 ghost use Rattle.table.specs.Table.{records};
 ghost use Rattle.links.specs.Links.{joins, in_front, link_one, link_below, link_all};
 
-use table::{Field, count, field_at};
+use table::{Field, Table};
 
-// Whether a record j of this kind and with parent p is an element or an attribute under an earlier
-// record.
+// Whether a record j of this kind, a number as the table has it, and with parent p is an element or an
+// attribute under an earlier record.
 #[tactic(auto, unfolding(crate::specs::Links::joins))]
 fn does_join(kind: usize, p: usize, j: usize) -> bool
     ensures { result ≡ joins kind p j }
@@ -29,23 +29,23 @@ fn put_in_front(links: &mut [u16], k: usize, p: usize, j: usize)
 }
 
 // Links record j, if it joins.
-fn link_one(table: &[u32], links: &mut [u16], j: usize)
+fn link_one(table: &Table, links: &mut [u16], j: usize)
     requires { (j * 3 + 2 < length links.old) × (j < 65536) }
-    ensures { links.new ≡ link_one table.now j links.old }
+    ensures { links.new ≡ link_one table.now.records.now j links.old }
 {
-    let kind = field_at(table, j, Field::Kind);
-    let p = field_at(table, j, Field::Parent);
+    let kind = table.field_at(j, Field::Kind);
+    let p = table.field_at(j, Field::Parent);
     if does_join(kind, p, j) {
         put_in_front(links, kind - 1, p, j);
     }
 }
 
 // Links all records, from the last to the first, so that those under a parent stand in table order.
-fn link_each(table: &[u32], links: &mut [u16])
-    requires { (records table.now * 3 ≤ length links.old) × (records table.now ≤ 65536) }
-    ensures { links.new ≡ link_below table.now (records table.now) links.old }
+fn link_each(table: &Table, links: &mut [u16])
+    requires { (records table.now.records.now * 3 ≤ length links.old) × (records table.now.records.now ≤ 65536) }
+    ensures { links.new ≡ link_below table.now.records.now (records table.now.records.now) links.old }
 {
-    for j in (0..count(table)).rev() {
+    for j in (0..table.count()).rev() {
         link_one(table, links, j);
     }
 }
@@ -53,10 +53,10 @@ fn link_each(table: &[u32], links: &mut [u16])
 // Links all records of a table in an array lent with zeros. Where it has no room for three numbers
 // for each record, or a record's number would not fit, nothing changes.
 #[tactic(auto, using(crate::proofs::Chains::link_roomy, crate::proofs::Chains::link_cramped))]
-pub fn link(table: &[u32], links: &mut [u16])
-    ensures { links.new ≡ link_all table.now links.old }
+pub fn link(table: &Table, links: &mut [u16])
+    ensures { links.new ≡ link_all table.now.records.now links.old }
 {
-    if count(table) * 3 <= links.len() && count(table) <= 65536 {
+    if table.count() * 3 <= links.len() && table.count() <= 65536 {
         link_each(table, links);
     }
 }

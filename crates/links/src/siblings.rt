@@ -1,6 +1,8 @@
 // Links as they are read: the records under a record, one after the other.
 ghost use Rattle.std.specs.Prelude.{◌≡◌, ◌<◌};
 ghost use Rattle.std.specs.Iterator.{YieldsFirst, item_count};
+ghost use Rattle.text.specs.Options.{option_of};
+ghost use Rattle.table.specs.Table.{found};
 ghost use Rattle.links.specs.Links.{link, linked};
 ghost use Rattle.links.specs.Siblings.{siblings};
 
@@ -17,18 +19,28 @@ fn link_at(links: &[u16], i: usize, k: usize) -> u16
     0
 }
 
-// The first child of record i, and 0 where there is none.
-pub fn first_of(links: &[u16], i: usize) -> usize
-    ensures { result ≡ link links.now i 0 }
+// The record that a link names, if it names one.
+fn record_of(link: u16) -> Option<usize>
+    ensures { option_of result ≡ found link }
 {
-    link_at(links, i, 0) as usize
+    if link == 0 {
+        return None;
+    }
+    Some(link as usize)
 }
 
-// The next record under the parent of record c and of its kind, and 0 where there is none.
-pub fn next_of(links: &[u16], c: usize) -> usize
-    ensures { result ≡ link links.now c 2 }
+// The first child of record i.
+pub fn first_of(links: &[u16], i: usize) -> Option<usize>
+    ensures { option_of result ≡ found (link links.now i 0) }
 {
-    link_at(links, c, 2) as usize
+    record_of(link_at(links, i, 0))
+}
+
+// The next record under the parent of record c and of its kind.
+pub fn next_of(links: &[u16], c: usize) -> Option<usize>
+    ensures { option_of result ≡ found (link links.now c 2) }
+{
+    record_of(link_at(links, c, 2))
 }
 
 // Records that links spell one after the other, from `next` on: at most `left`, so that links that go

@@ -1,7 +1,9 @@
 -- Laws of the numbers of messages, paths, terms and parents: each finds its own again, so that no two have the same.
 use mathlib.Core.Path.{◌≡◌, refl, sym, ◌∙◌, ap}
-use mathlib.Core.Option.{Option, none, some}
-use Prim.Native.Nat.{ℕ}
+use mathlib.Core.Bool.{false}
+use mathlib.Core.Option.{Option, none, some, none-ne-some}
+use Prim.Native.Nat.{ℕ, zero, suc}
+use lib.Dec.{eqb, eqb-suc-zero}
 use Rattle.names.specs.declared.message.Message.{Message}
 use Rattle.names.specs.declared.path.Path.{Path}
 use Rattle.names.specs.declared.term.Term.{Term}
@@ -9,13 +11,8 @@ use Rattle.names.specs.declared.parent.Parent.{Parent}
 use Rattle.names.specs.Numbered.{nth}
 use Rattle.names.specs.Message.{message_number, messages}
 use Rattle.names.specs.Path.{path_number, paths}
-use Rattle.names.specs.Term.{term_number, terms}
+use Rattle.names.specs.Term.{term_number, maybe_term_number, terms}
 use Rattle.names.specs.Parent.{parent_number, parents}
-
--- the term of what was found, none where nothing was
-abbrev pub or_none : Option Term → Term
-or_none none = Term.None
-or_none (some t) = t
 
 -- a number finds its own
 pub message_found : (x : Message) → nth messages (message_number x) ≡ some x
@@ -97,9 +94,8 @@ path_found Path.ReferencedDocumentIssueDateString = refl
 path_found Path.PaymentTermsDirectDebitMandate = refl
 path_found Path.SettlementCreditorReference = refl
 
-pub term_found : (t : Term) → or_none (nth terms (term_number t)) ≡ t
+pub term_found : (t : Term) → nth terms (term_number t) ≡ some t
 unfolding nth terms
-term_found Term.None = refl
 term_found Term.Bt106 = refl
 term_found Term.Bt107 = refl
 term_found Term.Bt108 = refl
@@ -126,6 +122,21 @@ term_found Term.Bt103 = refl
 term_found Term.Bt25 = refl
 term_found Term.Bt8 = refl
 
+-- no term's number is that of none
+pub term_counted : (t : Term) → eqb (term_number t) 0 ≡ false
+unfolding nth
+term_counted t = go (term_number t) (term_found t)
+  where
+    go : (n : ℕ) → nth terms n ≡ some t → eqb n 0 ≡ false
+    go zero e = absurd (none-ne-some _ e)
+    go (suc i) e = eqb-suc-zero i
+
+-- that of an absent term finds nothing
+pub maybe_term_found : (t : Option Term) → nth terms (maybe_term_number t) ≡ t
+unfolding nth
+maybe_term_found none = refl
+maybe_term_found (some t) = term_found t
+
 pub parent_found : (x : Parent) → nth parents (parent_number x) ≡ some x
 unfolding nth parents
 parent_found Parent.Settlement = refl
@@ -144,7 +155,12 @@ path_same a b e =
     cc
 
 pub term_same : (a b : Term) → term_number a ≡ term_number b → a ≡ b
-term_same a b e = sym (term_found a) ∙ ap (λ (n : ℕ). or_none (nth terms n)) e ∙ term_found b
+term_same a b e =
+    let q : some a ≡ some b = sym (term_found a) ∙ ap (nth terms) e ∙ term_found b in
+    cc
+
+pub maybe_term_same : (a b : Option Term) → maybe_term_number a ≡ maybe_term_number b → a ≡ b
+maybe_term_same a b e = sym (maybe_term_found a) ∙ ap (nth terms) e ∙ maybe_term_found b
 
 pub parent_same : (a b : Parent) → parent_number a ≡ parent_number b → a ≡ b
 parent_same a b e =

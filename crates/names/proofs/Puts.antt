@@ -7,7 +7,7 @@ use native.Mathlib.Nat.{add-zero, add-suc, suc-add}
 use native.Mathlib.Numerals.{add-one}
 use native.Mathlib.Omega.{arith}
 use lib.ListN.{length, get_or, take, drop, set, length-set, take-append-drop, drop_of_length-le}
-use lib.Seq.{paste, length-sets, sets-eq, take-suc, length-take-le, take_all, set_comm, set-set, set_out, get_or-set_same, get_or-set_other}
+use lib.Seq.{paste, length-sets, sets-eq, take-suc, length-take-le, set_comm, set-set, set_out, get_or-set_same, get_or-set_other}
 use borrow.Rule.Slice.PartMut.{put_mid}
 use Rattle.std.proofs.lemmas.Bool.{cases_lt}
 use Rattle.std.proofs.lemmas.List.{take-take}
@@ -72,30 +72,13 @@ module _ {A : Type 0} where
       ∙ put_again os ns (set l k n) (suc k) (omega arith)
       ∙ sym (put_first l k n ns)
 
-  pub put_over : (l : List A) (at : ℕ) (vs os ns : List A) → length os ≡ length ns → put (put l at (vs ++ os)) (at + length vs) ns ≡ put l at (vs ++ ns)
-  put_over l at vs os ns e = rw (← put_put vs l os at, ← put_put vs l ns at) (put_again os ns (put l at vs) (at + length vs) (omega arith))
-
--- the loop that puts a row, at its number i: a turn, and the end
+-- a loop that puts a row, at its number i: a turn
 module _ {A : Type 0} (l : List A) (at : ℕ) (vs : List A) where
   pub put_turn : {m m' : List A} {i : ℕ} (d : A) → i < length vs → m ≡ put l at (take i vs) → m' ≡ set m (at + i) (get_or vs i d) → m' ≡ put l at (take (i + 1) vs)
   unfolding put
   put_turn {m} {m'} {i} d h e s =
       let n : length (take i vs) ≡ i = length-take-le i vs (omega arith) in
       s ∙ rw (e, add-one, take-suc vs i d) (rw n at (put_put (take i vs) l (get_or vs i d ∷ []) at))
-
-  pub put_end : {m : List A} {i : ℕ} → length vs ≤ i → m ≡ put l at (take i vs) → m ≡ put l at vs
-  put_end {m} {i} h e = e ∙ ap (put l at) (take_all i vs h)
-
-  pub put_length : {m : List A} (i : ℕ) → m ≡ put l at (take i vs) → length m ≡ length l
-  put_length {m} i e = ap length e ∙ length_put l at (take i vs)
-
--- a place beyond the list
-module _ {A : Type 0} (l : List A) (at i : ℕ) (v : A) where
-  pub set_far : length l ≤ at → l ≡ set l (at + i) v
-  set_far h = sym (set_out l (at + i) v (omega arith))
-
-  pub set_past : at < length l → length l - at ≤ i → l ≡ set l (at + i) v
-  set_past h k = sym (set_out l (at + i) v (omega arith))
 
 -- what goes beyond the list is not put
 module _ {A : Type 0} where

@@ -1,10 +1,10 @@
 -- The business terms of entries and their groups (EN 16931-1, 6.3; document 01, "Rows": Entry).
 use Rattle.std.specs.Prelude.{List, [], ◌∷◌, ℕ}
+use Rattle.std.proofs.Math.Option.{Option, none, some}
 use Rattle.names.specs.declared.term.Term.{Term}
 
--- the number in docs/TERMS.md, 0 for none
+-- the number in docs/TERMS.md
 abbrev pub term_number : Term → ℕ
-term_number Term.None = 0
 term_number Term.Bt106 = 1
 term_number Term.Bt107 = 2
 term_number Term.Bt108 = 3
@@ -30,6 +30,11 @@ term_number Term.Bt102 = 22
 term_number Term.Bt103 = 23
 term_number Term.Bt25 = 24
 term_number Term.Bt8 = 25
+
+-- the same of a term that may be absent, 0 for none
+abbrev pub maybe_term_number : Option Term → ℕ
+maybe_term_number none = 0
+maybe_term_number (some t) = term_number t
 
 -- the terms in the order of their numbers
 unfoldable pub terms : List Term

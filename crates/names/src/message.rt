@@ -34,11 +34,11 @@ pub enum Message {
     CreditorBesideOther = 26,
 }
 
-impl Message {
-    // The message's number in document 01.
-    pub fn number(self) -> u32
-        ensures { result ≡ message_number self }
-    {
-        self as u32
+// The message's number in document 01.
+impl From<Message> for u32 {
+    ghost from_gives = { λ message n. n ≡ message_number message };
+
+    fn from(message: Message) -> u32 {
+        message as u32
     }
 }

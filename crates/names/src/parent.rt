@@ -10,11 +10,11 @@ pub enum Parent {
     PaymentMeans = 3,
 }
 
-impl Parent {
-    // The parent's number in document 01.
-    pub fn number(self) -> u32
-        ensures { result ≡ parent_number self }
-    {
-        self as u32
+// The parent's number in document 01.
+impl From<Parent> for u32 {
+    ghost from_gives = { λ parent n. n ≡ parent_number parent };
+
+    fn from(parent: Parent) -> u32 {
+        parent as u32
     }
 }

@@ -55,11 +55,11 @@ pub enum Path {
     SettlementCreditorReference = 47,
 }
 
-impl Path {
-    // The path's number in docs/PATHS.md.
-    pub fn number(self) -> u32
-        ensures { result ≡ path_number self }
-    {
-        self as u32
+// The path's number in docs/PATHS.md.
+impl From<Path> for u32 {
+    ghost from_gives = { λ path n. n ≡ path_number path };
+
+    fn from(path: Path) -> u32 {
+        path as u32
     }
 }

@@ -2,10 +2,9 @@
 ghost use Rattle.std.specs.Prelude.{◌≡◌};
 ghost use Rattle.names.specs.Term.{term_number};
 
-// Every term that an entry can have, and none.
+// Every term that an entry can have.
 #[derive(Clone, Copy, Debug, PartialEq, Eq)]
 pub enum Term {
-    None = 0,
     Bt106 = 1,
     Bt107 = 2,
     Bt108 = 3,
@@ -33,11 +32,11 @@ pub enum Term {
     Bt8 = 25,
 }
 
-impl Term {
-    // The term's number in docs/TERMS.md, 0 for none.
-    pub fn number(self) -> u32
-        ensures { result ≡ term_number self }
-    {
-        self as u32
+// The term's number in docs/TERMS.md.
+impl From<Term> for u32 {
+    ghost from_gives = { λ term n. n ≡ term_number term };
+
+    fn from(term: Term) -> u32 {
+        term as u32
     }
 }

@@ -3,7 +3,6 @@ ghost use Rattle.std.specs.Prelude.{◌≡◌, List, [], ◌∷◌, ℕ};
 ghost use Rattle.std.proofs.Math.Option.{none};
 ghost use Rattle.report.specs.Values.{text_of};
 ghost use Rattle.report.specs.declared.held.HeldRows.{HeldRows};
-ghost use Rattle.names.specs.declared.term.Term.TheVariants as Term;
 ghost use Rattle.settlement.specs.Values.{entry, site};
 ghost use Rattle.settlement.specs.Payments.{financial_card, debtor_account, account_of, not_held, with_means, first_means, part};
 ghost use Rattle.values.specs.Told.{Said};
@@ -15,15 +14,15 @@ ghost use Rattle.payment.specs.Walked.{Walked};
 
 use crate::paying::{Means, Payment, PaymentCard, Walk};
 use element::Document;
-use names::{Message, Path, Term};
+use names::{Message, Path};
 use report::Place;
 use values::Entries;
 
 // Says that the model can't hold what stands at a path.
 pub(crate) fn not_held(entries: &mut Entries, path: Path, message: Message)
-    ensures { Said (entry message (site path Term.None) none ∷ []) entries.old entries.new }
+    ensures { Said (entry message (site path none) none ∷ []) entries.old entries.new }
 {
-    entries.say(message, values::site(path, Term::None), None);
+    entries.say(message, values::site(path, None), None);
 }
 
 // The same on the walk.

@@ -36,6 +36,7 @@ const PARTS: [(&[u8], Part); 6] = [
 ];
 
 // What a name stands for.
+// As `kind_named` in `kinds`, over a table and an enum of its own.
 fn part_named(name: &[u8]) -> Part
     ensures { part_is result ≡ meant unknown parts name.now }
 {

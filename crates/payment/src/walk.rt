@@ -20,6 +20,7 @@ use unmapped::UnmappedRows;
 use values::Entries;
 
 // A child that is not mapped is noted.
+// A call of `note`, as in `children` and `totals`, under the contract of its own step.
 fn unmapped_part(doc: &Document, unmapped: &mut UnmappedRows, walk: Walk, c: usize) -> Walk
     ensures { (h : HeldRows) (e : Entries) → Walked (part (doc_of doc.now) unknown (paying_of walk) c) walk result (lent_text doc.now) h h e e unmapped.old unmapped.new }
 {

@@ -11,7 +11,7 @@ use lib.IntN.{ℤ, pos}
 use lib.ListN.{length, replicate}
 use Rattle.names.specs.Message.{message_number}
 use Rattle.names.specs.Path.{path_number}
-use Rattle.names.specs.Term.{term_number}
+use Rattle.names.specs.Term.{maybe_term_number}
 use Rattle.names.specs.Parent.{parent_number}
 use Rattle.report.specs.Rows.{Place, Entry, AllowanceCharge, Held, transfer, vat, allowance, charge, preceding, Unmapped, map_entry, map_transfer, map_vat, map_allowance_charge, map_preceding, map_held, map_unmapped}
 use Rattle.report.specs.Columns.{Column, width, entry_columns, unmapped_columns, transfer_columns, vat_columns, allowance_charge_columns, preceding_columns, held_columns}
@@ -61,7 +61,7 @@ module _ (x : List ℕ) where
 
 -- the cells of a row whose texts are bytes
 abbrev entry_cells : Entry (List ℕ) → List Cell
-entry_cells e = number (pos (message_number e.message)) ∷ number (pos (path_number e.path)) ∷ number (pos (term_number e.term)) ∷ number (or_absent e.index) ∷ cell_of e.value ∷ []
+entry_cells e = number (pos (message_number e.message)) ∷ number (pos (path_number e.path)) ∷ number (pos (maybe_term_number e.term)) ∷ number (or_absent e.index) ∷ cell_of e.value ∷ []
 
 abbrev unmapped_cells : Unmapped (List ℕ) → List Cell
 unmapped_cells u = number (pos (parent_number u.parent)) ∷ bytes u.name ∷ []

@@ -1,19 +1,32 @@
--- A call for every input: the code's answer whose meaning is the outcome's, and the lists as they are promised.
+-- A call for every input: the code's result whose meaning is the outcome's, and the lists as they are promised.
 use Rattle.text.specs.Options.{option_of}
 use mathlib.Core.Path.{◌≡◌, refl, ap}
+use mathlib.Core.Bool.{Bool, true, false, cond}
 use mathlib.Core.List.{List}
 use mathlib.Core.Option.{Option, none, some}
 use Prim.Native.Nat.{ℕ, ◌+◌}
 use native.Mathlib.Omega.{arith}
+use borrow.Author.Tests.{eqb-true}
+use lib.Dec.{eqb}
 use lib.IntN.{ℤ}
+use lib.ListN.{length}
 use Rattle.report.specs.Rows.{Place}
 use Rattle.report.specs.Encoding.{rows_then}
 use Rattle.report.specs.Values.{place_of, text_of, amount_of}
 use Rattle.report.specs.declared.value.Place as CodePlace
-use Rattle.settlement.specs.Shapes.{Identifier, Payee, Means, unset, card, debit, transfers, Period, Totals, Terms}
+use Rattle.refusals.specs.Refusals.{refuse, record_refusal, size_refusal, refusal}
+use Rattle.refusals.specs.Reasons.{number}
+use Rattle.refusals.specs.declared.reasons.Reason.{Reason}
+use Rattle.refusals.specs.declared.reasons.Reason.TheVariants.{Mode, Rules, Ragged, Oversized, NotRoot, Misplaced, Outside, NotUtf8, NotSettlement, Cramped}
+use Rattle.refusals.specs.declared.reasons.Refusal.{Refusal}
+use Rattle.settlement.specs.Document.{or_else}
+use Rattle.settlement.specs.Shapes.{Identifier, Payee, Means, unset, card, debit, transfers, Period, Totals, Terms, Reading}
 use Rattle.settlement.specs.Values.{Lent}
-use Rattle.settlement.specs.Outcome.{outcome}
-use Rattle.settlement.specs.Result.{Result, result_of}
+use Rattle.settlement.specs.Settlement.{reading}
+use Rattle.settlement.specs.Summation.{is_none}
+use Rattle.settlement.specs.TableDoc.{table_doc}
+use Rattle.settlement.specs.Outcome.{Room, Outcome, refused, read, call_refusal, unless, outcome}
+use Rattle.settlement.specs.Result.{result_of}
 use Rattle.groups.specs.Groups.{maybe_identifier_of}
 use Rattle.payment.specs.Walks.{means_of}
 use Rattle.payment.specs.declared.paying.Means as CodeMeans
@@ -23,11 +36,12 @@ use Rattle.totals.specs.declared.state.Totals as CodeTotals
 use Rattle.steps.specs.States.{maybe_payee_of, maybe_period_of}
 use Rattle.terms.specs.Terms.{terms_of}
 use Rattle.terms.specs.declared.terms.Terms as CodeTerms
-use Rattle.reader.specs.Answered.{room_of}
+use Rattle.reader.specs.Answers.{answer_of}
+use Rattle.reader.specs.Answered.{room_of, Answered}
 use Rattle.reader.specs.Calls.{Call, Promised}
-use Rattle.reader.specs.declared.answer.Answer as Code
+use Rattle.reader.specs.declared.reading.Reading as Code
 use Rattle.std.specs.declared.option.Option as Maybe
-use Rattle.std.specs.Prelude.{None, Some}
+use Rattle.std.specs.Prelude.{None, Some, Result, Ok, Err}
 use Rattle.amount.specs.declared.amount.InvoiceAmount.{InvoiceAmount}
 use Rattle.groups.specs.declared.shapes.Identifier as CodeIdentifier
 use Rattle.groups.specs.declared.shapes.Payee as CodePayee
@@ -151,13 +165,61 @@ terms_coded : (t : Terms Place) → terms_of (code_terms t) ≡ t
 unfolding code_terms
 terms_coded t = simp (text_coded, day_coded, payee_coded, period_coded, means_coded, totals_coded)
 
--- what the code answers for a result
-abbrev code_answer : Result → Code.Answer
-code_answer r = record { refusal = r.number; place = r.place; held = r.held_count; entries = r.entry_count; unmapped = r.unmapped_count; terms = code_terms r.terms }
+-- the reason of a number
+unfoldable pub code_reason : ℕ → Reason
+code_reason n =
+    cond (eqb n 1) Mode
+    (cond (eqb n 2) Rules
+    (cond (eqb n 3) Ragged
+    (cond (eqb n 4) Oversized
+    (cond (eqb n 5) NotRoot
+    (cond (eqb n 6) Misplaced (cond (eqb n 7) Outside (cond (eqb n 8) NotUtf8 (cond (eqb n 9) NotSettlement Cramped))))))))
+
+-- a refusal's number is that of its reason
+unfoldable reason_coded : Option (ℕ × ℕ) → Bool
+reason_coded none = true
+reason_coded (some n) = eqb (number (code_reason n.0)) n.0
+
+none_coded : reason_coded none ≡ true
+unfolding reason_coded
+none_coded = refl
+
+refuse_coded : (k : ℕ) (o : Option ℕ) (next : Option (ℕ × ℕ)) → reason_coded (refuse k o next) ≡ cond (is_none o) (reason_coded next) (eqb (number (code_reason k)) k)
+unfolding reason_coded
+refuse_coded k none next = refl
+refuse_coded k (some r) next = refl
+
+either_coded : (o p : Option (ℕ × ℕ)) → reason_coded (or_else o p) ≡ cond (is_none o) (reason_coded p) (reason_coded o)
+either_coded none p = refl
+either_coded (some n) p = refl
+
+either_way : (b : Bool) → cond b true true ≡ true
+either_way true = refl
+either_way false = refl
+
+-- as for all ten
+call_coded : (L : Lent) (m : Room) (t x : List ℕ) → reason_coded (call_refusal L m t x) ≡ true
+unfolding call_refusal refusal size_refusal record_refusal code_reason
+call_coded L m t x = simp (refuse_coded, either_coded, none_coded, either_way)
+
+-- what the code answers for an outcome
+abbrev pub code_answer : Outcome → Result Code.Reading Refusal
+code_answer (refused n j) = Err (record { reason = code_reason n; «record» = j })
+code_answer (read r) = Ok (record { held = length r.held; entries = length r.entries; unmapped = length r.unmapped; terms = code_terms r.terms })
+
+-- what it answers means that outcome
+answer_coded :
+    (n : Option (ℕ × ℕ)) (r : Reading Place) → reason_coded n ≡ true → (h e u : List ℤ) →
+    Answered (unless n r) (answer_of (code_answer (unless n r))) h (rows_then (result_of (unless n r)).held h) e (rows_then (result_of (unless n r)).entries e) u (rows_then (result_of (unless n r)).unmapped u)
+unfolding result_of reason_coded
+answer_coded none r p h e u =
+    record { refusal = refl; place = refl; terms = terms_coded r.terms; held_count = refl; entry_count = refl; unmapped_count = refl; held_rows = refl; entry_rows = refl; unmapped_rows = refl }
+answer_coded (some n) r p h e u =
+    record { refusal = eqb-true _ _ p; place = refl; terms = refl; held_count = refl; entry_count = refl; unmapped_count = refl; held_rows = refl; entry_rows = refl; unmapped_rows = refl }
 
 module _ (L : Lent) (t x : List ℕ) (h e u : List ℤ) where
-  abbrev result : Result
-  result = result_of (outcome L (room_of h e u) t x)
+  abbrev told : Outcome
+  told = outcome L (room_of h e u) t x
 
   -- the call of an input
   abbrev pub call_of : Call
@@ -168,23 +230,13 @@ module _ (L : Lent) (t x : List ℕ) (h e u : List ℤ) where
         held = h;
         entries = e;
         unmapped = u;
-        answer = code_answer result;
-        held' = rows_then result.held h;
-        entries' = rows_then result.entries e;
-        unmapped' = rows_then result.unmapped u;
+        answer = answer_of (code_answer told);
+        held' = rows_then (result_of told).held h;
+        entries' = rows_then (result_of told).entries e;
+        unmapped' = rows_then (result_of told).unmapped u;
       }
 
   -- does what `read` promises
   pub call_promised : Promised L call_of
-  call_promised =
-      record {
-        refusal = refl;
-        place = refl;
-        terms = terms_coded result.terms;
-        held_count = refl;
-        entry_count = refl;
-        unmapped_count = refl;
-        held_rows = refl;
-        entry_rows = refl;
-        unmapped_rows = refl;
-      }
+  unfolding outcome
+  call_promised = answer_coded (call_refusal L (room_of h e u) t x) (reading L (table_doc t x) 0) (call_coded L (room_of h e u) t x) h e u

@@ -19,6 +19,6 @@ module _ (w a n : ℕ) (positive : 0 < w) where
   roomy p = le-ltb a (w * n) (rw (mul_comm w n) ((le-div_iff_mul-le positive).0 p))
 
 -- what was tested is refusal 10
-pub cramped_is : (m : Room) (t : List ℕ) {b z : Bool} → b ≡ (ltb m.held (held_room * records t) || (ltb m.entries (entry_room * records t) || ltb m.unmapped (unmapped_room * records t))) → b ≡ z → cramped m t ≡ z
+pub cramped_is : (m : Room) (t : List ℕ) {n : ℕ} {b z : Bool} → n ≡ records t → b ≡ (ltb m.held (held_room * n) || (ltb m.entries (entry_room * n) || ltb m.unmapped (unmapped_room * n))) → b ≡ z → cramped m t ≡ z
 unfolding cramped
-cramped_is m t e f = sym e ∙ f
+cramped_is m t k e f = rw k at (sym e ∙ f)

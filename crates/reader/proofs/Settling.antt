@@ -1,15 +1,21 @@
 -- What was read of an accepted table into lists with room is the reading that is defined.
-use mathlib.Core.Path.{◌≡◌, refl, ap, ◌∙◌}
-use mathlib.Core.Bool.{true, false}
+use mathlib.Core.Path.{◌≡◌, refl, sym, ap, ◌∙◌}
+use mathlib.Core.Bool.{true, false, true≢false}
 use mathlib.Core.List.{List, ◌++◌}
 use mathlib.Core.Option.{none}
 use Prim.Native.Nat.{ℕ, ◌+◌, ◌*◌, ◌/◌, ◌≤◌}
 use native.Mathlib.Omega.{arith}
 use borrow.Author.Tests.{le-leb}
+use lib.Dec.{ltb}
 use lib.IntN.{ℤ}
 use lib.ListN.{length, drop, replicate, length-replicate}
+use Rattle.std.specs.Prelude.{Result, Ok, Err, is_ok}
 use Rattle.table.specs.Table.{records, kids}
 use Rattle.refusals.specs.Refusals.{refuse, at_root, refusal}
+use Rattle.refusals.specs.Reasons.{number}
+use Rattle.refusals.specs.declared.reasons.Reason.{Reason}
+use Rattle.refusals.specs.declared.reasons.Reason.TheVariants.{Mode, Rules, Ragged, Oversized, NotRoot, Misplaced, Outside, NotUtf8, NotSettlement, Cramped}
+use Rattle.refusals.specs.declared.reasons.Refusal.{Refusal}
 use Rattle.links.specs.Links.{link_all}
 use Rattle.links.proofs.Linking.{link_length, roomy_is, blank_zeros}
 use Rattle.names.specs.Put.{put}
@@ -24,7 +30,7 @@ use Rattle.settlement.specs.Document.{Doc}
 use Rattle.settlement.specs.Shapes.{Reading}
 use Rattle.settlement.specs.Fits.{Fits}
 use Rattle.settlement.specs.Outcome.{Room, refused, read, cramped, unless}
-use Rattle.settlement.specs.Result.{result_of}
+use Rattle.settlement.specs.Result.{blank_terms, result_of}
 use Rattle.settlement.specs.Settlement as reading
 use Rattle.settlement.specs.TableDoc.{table_doc}
 use Rattle.settlement.specs.Values.{Lent}
@@ -38,11 +44,11 @@ use Rattle.steps.specs.States.{state_of}
 use Rattle.children.specs.Walks.{countable, Read}
 use Rattle.steps.specs.declared.state.State as State
 use Rattle.terms.specs.Terms.{terms_of}
-use Rattle.reader.specs.Answers.{Refused}
+use Rattle.reader.specs.Answers.{Answer, answer_of, Refused}
 use Rattle.reader.specs.Answered.{room_of, Answered, AnsweredRows}
 use Rattle.terms.specs.Endings.{Ended}
 use Rattle.reader.specs.Spelled.{Spelled}
-use Rattle.reader.specs.declared.answer.Answer as Code
+use Rattle.reader.specs.declared.reading.Reading as Code
 use Rattle.terms.specs.declared.terms.Terms as Terms
 use Rattle.report.specs.declared.held.HeldRows.{HeldRows}
 use Rattle.values.specs.declared.saying.Entries.{Entries}
@@ -80,6 +86,10 @@ module _
   abbrev whole : Reading Place
   whole = reading.reading L (table_doc t x) 0
 
+  -- what the code answers
+  abbrev code : Code.Reading
+  code = record { held = h'.at / held_width; entries = e'.at / entry_width; unmapped = u'.count; terms = f }
+
   all_read : Read L (table_doc t x) x (kids t 0) s h h' e e₁ u u'
   all_read = read-as spelled.document (own_children t x l spelled) walked
 
@@ -102,7 +112,7 @@ module _
   unfolding reading.reading reading.reading_of table_doc
   unmapped_read = rw (table_order t x) (noted_all _ (listed_none x u.list.now) (omega (arith, strays_fit L (room_of h.list.now e.list.now u.list.now) t x accepted room)) (rw first.2 at all_read.noted.rows))
 
-  pub answered : Answered (read whole) (record { refusal = 0; place = 0; held = h'.at / held_width; entries = e'.at / entry_width; unmapped = u'.count; terms = f }) h.list.now h'.list.now e.list.now e'.list.now u.list.now u'.list.now
+  pub answered : Answered (read whole) (answer_of (Ok code)) h.list.now h'.list.now e.list.now e'.list.now u.list.now u'.list.now
   unfolding result_of
   answered =
       let a = rows_length held_row held_width held-width whole.held in
@@ -122,19 +132,44 @@ module _
         unmapped_rows = put_front u.list.now _ unmapped_read.rows (omega (arith, c, unmapped_read.room));
       }
 
-  pub answered_rows : AnsweredRows (read whole) (record { refusal = 0; place = 0; held = h'.at / held_width; entries = e'.at / entry_width; unmapped = u'.count; terms = f }) h h' e e' u u'
+  pub answered_rows : AnsweredRows (read whole) (answer_of (Ok code)) h h' e e' u u'
   answered_rows = record { held = walked.held.same; entries = ended.said.same ∙ walked.said.same; unmapped = walked.noted.same; answered = answered }
 
+-- a refusal's answer
+pub refused_is : {n j : ℕ} → Refused n j (record { refusal = n; place = j; terms = blank_terms; held = 0; entries = 0; unmapped = 0 })
+refused_is = record { refusal = refl; place' = refl; terms = refl; held = refl; entries = refl; unmapped = refl }
+
+-- and that of the code's
+pub refused_as : {r : Result Code.Reading Refusal} {f g : Refusal} → r ≡ Err g → g ≡ f → Refused (number f.reason) f.record (answer_of r)
+refused_as e p = rw (e, p) refused_is
+
+-- no reason has the number 0, so an answer of number 0 is a reading
+reason_above : (r : Reason) → ltb 0 (number r) ≡ true
+reason_above Mode = refl
+reason_above Rules = refl
+reason_above Ragged = refl
+reason_above Oversized = refl
+reason_above NotRoot = refl
+reason_above Misplaced = refl
+reason_above Outside = refl
+reason_above NotUtf8 = refl
+reason_above NotSettlement = refl
+reason_above Cramped = refl
+
+pub zero_read : (r : Result Code.Reading Refusal) → (answer_of r).refusal ≡ 0 → is_ok r ≡ true
+zero_read (Ok a) e = refl
+zero_read (Err f) e = absurd (true≢false (sym (reason_above f.reason) ∙ ap (ltb 0) e))
+
 -- a refusal has no rows
-pub refused_answered : {n j : ℕ} {r : Code.Answer} → Refused n j r → (h e u : List ℤ) → Answered (refused n j) r h h e e u u
+pub refused_answered : {n j : ℕ} {a : Answer} → Refused n j a → (h e u : List ℤ) → Answered (refused n j) a h h e e u u
 unfolding result_of
 refused_answered p h e u =
     record { refusal = p.refusal; place = p.place'; terms = p.terms; held_count = p.held; entry_count = p.entries; unmapped_count = p.unmapped; held_rows = refl; entry_rows = refl; unmapped_rows = refl }
 
 -- refusal 10, and no refusal, by its test
-module _ (m : Room) (t : List ℕ) (R : Reading Place) {r : Code.Answer} where
-  pub cramped_answered : cramped m t ≡ true → Refused 10 0 r → (h e u : List ℤ) → Answered (unless (refuse 10 (at_root (cramped m t)) none) R) r h h e e u u
+module _ (m : Room) (t : List ℕ) (R : Reading Place) {a : Answer} where
+  pub cramped_answered : cramped m t ≡ true → Refused 10 0 a → (h e u : List ℤ) → Answered (unless (refuse 10 (at_root (cramped m t)) none) R) a h h e e u u
   cramped_answered c p h e u = rw c (refused_answered p h e u)
 
-  pub roomy_answered : {h h' e e' u u' : List ℤ} → cramped m t ≡ false → Answered (read R) r h h' e e' u u' → Answered (unless (refuse 10 (at_root (cramped m t)) none) R) r h h' e e' u u'
+  pub roomy_answered : {h h' e e' u u' : List ℤ} → cramped m t ≡ false → Answered (read R) a h h' e e' u u' → Answered (unless (refuse 10 (at_root (cramped m t)) none) R) a h h' e e' u u'
   roomy_answered c p = rw c p

@@ -41,10 +41,17 @@ left_call n = call_of lent left_table left_text (held_with n) (entries_with n) (
 abbrev right_call : ℕ → Call
 right_call n = call_of lent right_table right_text (held_with n) (entries_with n) (unmapped_with n)
 
+-- all were read
+left_accepted : (n : ℕ) → (left_call n).answer.refusal ≡ 0
+left_accepted n = (call_promised lent left_table left_text (held_with n) (entries_with n) (unmapped_with n)).refusal ∙ left_zero n
+
+right_accepted : (n : ℕ) → (right_call n).answer.refusal ≡ 0
+right_accepted n = (call_promised lent right_table right_text (held_with n) (entries_with n) (unmapped_with n)).refusal ∙ right_zero n
+
 -- two calls whose trees differ by an exchange
 pub calls_witness : AlikeCalls (left_call 7) (right_call 9)
-calls_witness = calls_order_free lent (left_call 7) (right_call 9) (call_promised lent _ _ _ _ _) (call_promised lent _ _ _ _ _) (left_zero 7) (right_zero 9) witness
+calls_witness = calls_order_free lent (left_call 7) (right_call 9) (call_promised lent _ _ _ _ _) (call_promised lent _ _ _ _ _) (left_accepted 7) (right_accepted 9) witness
 
 -- two whose trees are equal
 pub same_calls_witness : SameCalls (left_call 7) (left_call 9)
-same_calls_witness = calls_same lent (left_call 7) (left_call 9) (call_promised lent _ _ _ _ _) (call_promised lent _ _ _ _ _) (left_zero 7) (left_zero 9) refl
+same_calls_witness = calls_same lent (left_call 7) (left_call 9) (call_promised lent _ _ _ _ _) (call_promised lent _ _ _ _ _) (left_accepted 7) (left_accepted 9) refl

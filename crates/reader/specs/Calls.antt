@@ -11,9 +11,8 @@ use Rattle.settlement.specs.TableDoc.{shows}
 use Rattle.settlement.specs.Shown.{map_terms}
 use Rattle.settlement.specs.Outcome.{outcome}
 use Rattle.settlement.specs.Alike.{keep}
-use Rattle.terms.specs.Terms.{terms_of}
 use Rattle.reader.specs.Answered.{room_of, Answered}
-use Rattle.reader.specs.declared.answer.Answer as Code
+use Rattle.reader.specs.Answers.{Answer}
 
 -- what a row shows: a number itself; of a text nothing, where it is absent, or its bytes
 pub data Cell : Type 0 where
@@ -110,7 +109,7 @@ pub record Call : Type 0 where
   pub held : List ℤ
   pub entries : List ℤ
   pub unmapped : List ℤ
-  pub answer : Code.Answer
+  pub answer : Answer
   pub held' : List ℤ
   pub entries' : List ℤ
   pub unmapped' : List ℤ
@@ -134,7 +133,7 @@ exit_of c =
 
 -- the terms of its answer, as its text shows them
 unfoldable pub shown_terms : Call → Terms (List ℕ)
-shown_terms c = map_terms (shows c.text) (terms_of c.answer.terms)
+shown_terms c = map_terms (shows c.text) c.answer.terms
 
 -- both were read, their terms show the same, and their rows do but for the order
 pub record AlikeCalls (c d : Call) : Type 0 where

@@ -1,5 +1,5 @@
 // The reader: refusals first, then the children of record 0 by their links, and the end.
-ghost use Rattle.std.specs.Prelude.{◌≡◌, false, ◌||◌, ◌*◌, ltb};
+ghost use Rattle.std.specs.Prelude.{◌≡◌, false, ◌||◌, ◌*◌, ltb, Ok};
 ghost use Rattle.std.proofs.Math.Option.{none};
 ghost use Rattle.codes.specs.Conformant.{conformant};
 ghost use Rattle.refusals.specs.Refusals.{refuse, at_root, refusal};
@@ -9,12 +9,14 @@ ghost use Rattle.settlement.specs.Settlement.{reading};
 ghost use Rattle.settlement.specs.TableDoc.{table_doc};
 ghost use Rattle.values.specs.Sites.{lent_of};
 ghost use Rattle.reader.specs.Answered.{lent_with, room_of, Answered, Readable, AnsweredRows};
+ghost use Rattle.reader.specs.Answers.{answer_of};
 ghost use Rattle.reader.specs.Spelled.{Spelled};
 
-use crate::answer::{Answer, refused};
+use crate::reading::Reading;
 use element::Document;
 use refusals::{Reason, Refusal};
 use report::{ENTRY_ROOM, ENTRY_WIDTH, HELD_ROOM, HELD_WIDTH, HeldRows, UNMAPPED_ROOM};
+use table::Table;
 use unmapped::UnmappedRows;
 use values::{Entries, Lent};
 
@@ -39,20 +41,17 @@ fn is_cramped(n: usize, held: usize, entries: usize, unmapped: usize) -> bool
 // their fronts on.
 fn read_rows(
     doc: &Document,
-    lent: Lent,
-    currency: &[u8],
+    lent: &Lent,
     held: &mut HeldRows,
     entries: &mut Entries,
     unmapped: &mut UnmappedRows,
-) -> Answer
+) -> Reading
     requires { Readable doc.now held.old entries.old unmapped.old }
-    ensures { AnsweredRows (read (reading (lent_of lent currency.now) (table_doc doc.now.table.now doc.now.text.now) 0)) result held.old held.new entries.old entries.new unmapped.old unmapped.new }
+    ensures { AnsweredRows (read (reading (lent_of lent.now) (table_doc doc.now.table.records.now doc.now.table.text.now) 0)) (answer_of (Ok result)) held.old held.new entries.old entries.new unmapped.old unmapped.new }
 {
-    let s = children::settlement(doc, lent, currency, held, entries, unmapped);
+    let s = children::settlement(doc, lent, held, entries, unmapped);
     let terms = terms::finish(entries, lent.rules, s);
-    Answer {
-        refusal: 0,
-        place: 0,
+    Reading {
         held: held.at / HELD_WIDTH,
         entries: entries.at / ENTRY_WIDTH,
         unmapped: unmapped.count,
@@ -62,19 +61,17 @@ fn read_rows(
 
 // The same into lists with room.
 fn read_linked(
-    table: &[u32],
-    text: &[u8],
+    table: &Table,
     links: &[u16],
-    lent: Lent,
-    currency: &[u8],
+    lent: &Lent,
     held: &mut [i64],
     entries: &mut [i64],
     unmapped: &mut [i64],
-) -> Answer
-    requires { (refusal table.now text.now ≡ none) × (cramped (room_of held.old entries.old unmapped.old) table.now ≡ false) × Spelled table.now text.now links.now }
-    ensures { Answered (read (reading (lent_of lent currency.now) (table_doc table.now text.now) 0)) result held.old held.new entries.old entries.new unmapped.old unmapped.new }
+) -> Reading
+    requires { (refusal table.now.records.now table.now.text.now ≡ none) × (cramped (room_of held.old entries.old unmapped.old) table.now.records.now ≡ false) × Spelled table.now.records.now table.now.text.now links.now }
+    ensures { Answered (read (reading (lent_of lent.now) (table_doc table.now.records.now table.now.text.now) 0)) (answer_of (Ok result)) held.old held.new entries.old entries.new unmapped.old unmapped.new }
 {
-    let doc = Document::new(table, text, links);
+    let doc = Document::new(*table, links);
     let mut held = HeldRows { list: held, at: 0 };
     let mut entries = Entries {
         list: entries,
@@ -84,38 +81,35 @@ fn read_linked(
         list: unmapped,
         count: 0,
     };
-    read_rows(&doc, lent, currency, &mut held, &mut entries, &mut unmapped)
+    read_rows(&doc, lent, &mut held, &mut entries, &mut unmapped)
 }
 
 // Links an accepted table in an array of zeros and reads its settlement into lists with room. Most
 // tables are small, and a small array is sooner filled.
 fn link_and_read(
-    table: &[u32],
-    text: &[u8],
-    lent: Lent,
-    currency: &[u8],
+    table: &Table,
+    lent: &Lent,
     held: &mut [i64],
     entries: &mut [i64],
     unmapped: &mut [i64],
-) -> Answer
-    requires { (refusal table.now text.now ≡ none) × (cramped (room_of held.old entries.old unmapped.old) table.now ≡ false) }
-    ensures { Answered (read (reading (lent_of lent currency.now) (table_doc table.now text.now) 0)) result held.old held.new entries.old entries.new unmapped.old unmapped.new }
+) -> Reading
+    requires { (refusal table.now.records.now table.now.text.now ≡ none) × (cramped (room_of held.old entries.old unmapped.old) table.now.records.now ≡ false) }
+    ensures { Answered (read (reading (lent_of lent.now) (table_doc table.now.records.now table.now.text.now) 0)) (answer_of (Ok result)) held.old held.new entries.old entries.new unmapped.old unmapped.new }
 {
-    if table.len() / 6 <= 256 {
+    if table.count() <= 256 {
         let mut few: [u16; 768] = [0; 768];
         links::link(table, &mut few);
-        return read_linked(table, text, &few, lent, currency, held, entries, unmapped);
+        return read_linked(table, &few, lent, held, entries, unmapped);
     }
     let mut links: [u16; 12288] = [0; 12288];
     links::link(table, &mut links);
-    read_linked(table, text, &links, lent, currency, held, entries, unmapped)
+    read_linked(table, &links, lent, held, entries, unmapped)
 }
 
 // Reads the settlement of an accepted table, unless the lists have too little room. The identifier is
 // looked at once, and not where a call is refused.
 fn read_accepted(
-    table: &[u32],
-    text: &[u8],
+    table: &Table,
     currency: &[u8],
     identifier: &[u8],
     rules: u32,
@@ -123,12 +117,12 @@ fn read_accepted(
     held: &mut [i64],
     entries: &mut [i64],
     unmapped: &mut [i64],
-) -> Answer
-    requires { refusal table.now text.now ≡ none }
-    ensures { Answered (unless (refuse 10 (at_root (cramped (room_of held.old entries.old unmapped.old) table.now)) none) (reading (lent_with mode rules currency.now (conformant identifier.now)) (table_doc table.now text.now) 0)) result held.old held.new entries.old entries.new unmapped.old unmapped.new }
+) -> Result<Reading, Refusal>
+    requires { refusal table.now.records.now table.now.text.now ≡ none }
+    ensures { Answered (unless (refuse 10 (at_root (cramped (room_of held.old entries.old unmapped.old) table.now.records.now)) none) (reading (lent_with mode rules currency.now (conformant identifier.now)) (table_doc table.now.records.now table.now.text.now) 0)) (answer_of result) held.old held.new entries.old entries.new unmapped.old unmapped.new }
 {
-    if is_cramped(table.len() / 6, held.len(), entries.len(), unmapped.len()) {
-        return refused(Refusal {
+    if is_cramped(table.count(), held.len(), entries.len(), unmapped.len()) {
+        return Err(Refusal {
             reason: Reason::Cramped,
             record: 0,
         });
@@ -137,15 +131,16 @@ fn read_accepted(
         mode,
         rules,
         extension: codes::is_conformant(identifier),
+        currency,
     };
-    link_and_read(table, text, lent, currency, held, entries, unmapped)
+    Ok(link_and_read(table, &lent, held, entries, unmapped))
 }
 
 // Reads a settlement: its terms are answered, its held rows, entries and unmapped rows go to the front
-// of the three lists. A refusal changes nothing.
+// of the three lists. A refusal changes nothing. Rules and mode are any numbers, as C lends them, and the
+// definitions speak of these. The three lists stay three: most functions below are lent one of them.
 pub fn read(
-    table: &[u32],
-    text: &[u8],
+    table: &Table,
     currency: &[u8],
     identifier: &[u8],
     rules: u32,
@@ -153,25 +148,23 @@ pub fn read(
     held: &mut [i64],
     entries: &mut [i64],
     unmapped: &mut [i64],
-) -> Answer
-    ensures { Answered (outcome (lent_with mode rules currency.now (conformant identifier.now)) (room_of held.old entries.old unmapped.old) table.now text.now) result held.old held.new entries.old entries.new unmapped.old unmapped.new }
+) -> Result<Reading, Refusal>
+    ensures { Answered (outcome (lent_with mode rules currency.now (conformant identifier.now)) (room_of held.old entries.old unmapped.old) table.now.records.now table.now.text.now) (answer_of result) held.old held.new entries.old entries.new unmapped.old unmapped.new }
 {
     if mode > 1 {
-        return refused(Refusal {
+        return Err(Refusal {
             reason: Reason::Mode,
             record: 0,
         });
     }
     if rules > 4095 {
-        return refused(Refusal {
+        return Err(Refusal {
             reason: Reason::Rules,
             record: 0,
         });
     }
-    match refusals::check(table, text) {
-        Err(refusal) => refused(refusal),
-        Ok(()) => read_accepted(
-            table, text, currency, identifier, rules, mode, held, entries, unmapped,
-        ),
-    }
+    refusals::check(table)?;
+    read_accepted(
+        table, currency, identifier, rules, mode, held, entries, unmapped,
+    )
 }

@@ -6,8 +6,8 @@
 // has a `requires`, and the crate assumes nothing of its own.
 #![tactic(auto)]
 
-mod answer;
 mod call;
+mod reading;
 
-pub use answer::Answer;
 pub use call::read;
+pub use reading::Reading;

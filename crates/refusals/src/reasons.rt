@@ -17,12 +17,12 @@ pub enum Reason {
     Cramped,
 }
 
-impl Reason {
-    // Its number, 1 to 10.
-    pub fn number(self) -> u32
-        ensures { result ≡ number self }
-    {
-        self as u32
+// Its number, 1 to 10.
+impl From<Reason> for u32 {
+    ghost from_gives = { λ reason n. n ≡ number reason };
+
+    fn from(reason: Reason) -> u32 {
+        reason as u32
     }
 }
 

@@ -8,7 +8,7 @@ use lib.IntN.{ℤ, pos, pos-ne-negsuc}
 use lib.ListN.{get_or}
 use Rattle.report.specs.Rows.{Place, Entry, Transfer, Vat, AllowanceCharge, Preceding, Held, transfer, vat, allowance, charge, preceding, Unmapped, map_entry, map_transfer, map_vat, map_allowance_charge, map_preceding, map_held, map_unmapped}
 use Rattle.report.specs.Encoding.{tidy, place_start, place_length, text_start, text_length, unscaled, scale, present, hundredths, or_absent, entry_row, allowance_charge_row, held_row, unmapped_row}
-use Rattle.names.proofs.Numbers.{message_same, path_same, term_same, parent_same}
+use Rattle.names.proofs.Numbers.{message_same, path_same, maybe_term_same, parent_same}
 
 -- the numbers at one place of two rows
 at : {v w : List ℤ} → v ≡ w → (i : ℕ) → get_or v i (pos 0) ≡ get_or w i (pos 0)
@@ -55,7 +55,7 @@ unfolding entry_row map_entry
 entry_same e f h =
     let m = message_same e.message f.message (cc) in
     let p = path_same e.path f.path (cc) in
-    let t = term_same e.term f.term (cc) in
+    let t = maybe_term_same e.term f.term (cc) in
     let i = number_same e.index f.index (cc) in
     let v = text_same e.value f.value (cc) (cc) in
     rw (m, p, t, i, v)

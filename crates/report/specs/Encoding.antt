@@ -3,7 +3,7 @@ use Rattle.std.specs.Prelude.{cond, List, [], ◌∷◌, ◌++◌, ℕ, zero, su
 use Rattle.std.proofs.Math.Option.{Option, none, some}
 use Rattle.names.specs.Message.{message_number}
 use Rattle.names.specs.Path.{path_number}
-use Rattle.names.specs.Term.{term_number}
+use Rattle.names.specs.Term.{maybe_term_number}
 use Rattle.names.specs.Parent.{parent_number}
 use Rattle.report.specs.Rows.{Place, Entry, AllowanceCharge, Held, transfer, vat, allowance, charge, preceding, Unmapped}
 
@@ -103,7 +103,7 @@ amount_cells a = present a ∷ hundredths a ∷ []
 -- message, path, term, group index or -1, value
 unfoldable pub entry_row : Entry Place → List ℤ
 entry_row e =
-    pos (message_number e.message) ∷ pos (path_number e.path) ∷ pos (term_number e.term) ∷ or_absent e.index ∷ text_cells e.value
+    pos (message_number e.message) ∷ pos (path_number e.path) ∷ pos (maybe_term_number e.term) ∷ or_absent e.index ∷ text_cells e.value
 
 -- unused numbers are 0
 abbrev pub filled : List ℤ → List ℤ

@@ -15,7 +15,7 @@ pub record Place : Type 0 where
 pub record Entry (X : Type 0) : Type 0 where
   pub message : Message
   pub path : Path
-  pub term : Term
+  pub term : Option Term
   pub index : Option ℕ
   pub value : Option X
 

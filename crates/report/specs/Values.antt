@@ -36,7 +36,7 @@ percent_of (Some q) = some (q.unscaled, q.scale)
 
 -- an entry
 abbrev pub entry_of : CodeEntry.Entry → Entry Place
-entry_of e = record { message = e.message; path = e.path; term = e.term; index = option_of e.index; value = text_of e.value }
+entry_of e = record { message = e.message; path = e.path; term = option_of e.term; index = option_of e.index; value = text_of e.value }
 
 -- BG-17
 abbrev pub transfer_of : CodeTransfer.Transfer → Transfer Place

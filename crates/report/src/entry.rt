@@ -1,9 +1,11 @@
 // Entries: what the reader has to say about the settlement.
-ghost use Rattle.report.specs.Placed.{Placed};
+ghost use Rattle.std.specs.Prelude.{◌≡◌, pos};
+ghost use Rattle.text.specs.Options.{option_of};
+ghost use Rattle.names.specs.Term.{maybe_term_number};
 ghost use Rattle.report.specs.Encoding.{entry_row};
 ghost use Rattle.report.specs.Values.{entry_of};
 
-use crate::list::{ENTRY_WIDTH, put_row};
+use crate::list::ENTRY_WIDTH;
 use crate::value::{Place, or_absent, text_length, text_start};
 use names::{Message, Path, Term};
 
@@ -12,22 +14,30 @@ use names::{Message, Path, Term};
 pub struct Entry {
     pub message: Message,
     pub path: Path,
-    pub term: Term,
+    pub term: Option<Term>,
     pub index: Option<u32>,
     pub value: Option<Place>,
 }
 
-// Puts an entry's row into a list at a place, and answers where the next goes.
-pub fn put_entry(list: &mut [i64], at: usize, e: Entry) -> usize
-    ensures { Placed list.old at (entry_row (entry_of e)) list.new result }
+// A term's number, 0 where there is none.
+fn term_number(t: Option<Term>) -> i64
+    ensures { result ≡ pos (maybe_term_number (option_of t)) }
 {
-    let row: [i64; ENTRY_WIDTH] = [
-        i64::from(e.message.number()),
-        i64::from(e.path.number()),
-        i64::from(e.term.number()),
-        or_absent(e.index),
-        text_start(e.value),
-        text_length(e.value),
-    ];
-    put_row(list, at, &row)
+    t.map_or(0, |t| i64::from(u32::from(t)))
+}
+
+impl Entry {
+    // The row of an entry.
+    pub fn row(self) -> [i64; ENTRY_WIDTH]
+        ensures { result ≡ entry_row (entry_of self) }
+    {
+        [
+            i64::from(u32::from(self.message)),
+            i64::from(u32::from(self.path)),
+            term_number(self.term),
+            or_absent(self.index),
+            text_start(self.value),
+            text_length(self.value),
+        ]
+    }
 }

@@ -1,6 +1,5 @@
 // What the reader holds: credit transfers, VAT breakdowns, allowances, charges and preceding invoices.
-ghost use Rattle.std.specs.Prelude.{[], ◌∷◌};
-ghost use Rattle.report.specs.Placed.{Placed};
+ghost use Rattle.std.specs.Prelude.{◌≡◌, [], ◌∷◌};
 ghost use Rattle.report.specs.HeldRows.{Holds};
 ghost use Rattle.report.specs.Rows.{transfer, vat, preceding, held_as};
 ghost use Rattle.report.specs.Encoding.{held_row};
@@ -31,6 +30,30 @@ pub struct Transfer {
     pub provider: Option<Place>,
 }
 
+impl Transfer {
+    // The row of a credit transfer.
+    pub fn row(self) -> [i64; HELD_WIDTH]
+        ensures { result ≡ held_row (transfer (transfer_of self)) }
+    {
+        [
+            Kind::Transfer as i64,
+            text_start(self.account),
+            text_length(self.account),
+            text_start(self.name),
+            text_length(self.name),
+            text_start(self.provider),
+            text_length(self.provider),
+            0,
+            0,
+            0,
+            0,
+            0,
+            0,
+            0,
+        ]
+    }
+}
+
 // BG-23 VAT breakdown: BT-116 to BT-121.
 #[derive(Clone, Copy)]
 pub struct Vat {
@@ -40,6 +63,30 @@ pub struct Vat {
     pub rate: Option<Percentage>,
     pub reason: Option<Place>,
     pub code: Option<Place>,
+}
+
+impl Vat {
+    // The row of a VAT breakdown.
+    pub fn row(self) -> [i64; HELD_WIDTH]
+        ensures { result ≡ held_row (vat (vat_of self)) }
+    {
+        [
+            Kind::Vat as i64,
+            self.taxable.to_minor_units(),
+            self.tax.to_minor_units(),
+            self.category.start(),
+            self.category.length(),
+            percent_unscaled(self.rate),
+            percent_scale(self.rate),
+            text_start(self.reason),
+            text_length(self.reason),
+            text_start(self.code),
+            text_length(self.code),
+            0,
+            0,
+            0,
+        ]
+    }
 }
 
 // BG-20 document level allowance or BG-21 charge: BT-92 to BT-98, BT-99 to BT-105.
@@ -54,11 +101,64 @@ pub struct AllowanceCharge {
     pub code: Option<Place>,
 }
 
+impl AllowanceCharge {
+    // The row of a charge or an allowance.
+    pub fn row(self, charge: bool) -> [i64; HELD_WIDTH]
+        ensures { result ≡ held_row (held_as charge (allowance_charge_of self)) }
+    {
+        let kind = if charge {
+            Kind::Charge as i64
+        } else {
+            Kind::Allowance as i64
+        };
+        [
+            kind,
+            self.amount.to_minor_units(),
+            amount_present(self.base),
+            amount_hundredths(self.base),
+            percent_unscaled(self.percentage),
+            percent_scale(self.percentage),
+            self.category.start(),
+            self.category.length(),
+            percent_unscaled(self.rate),
+            percent_scale(self.rate),
+            text_start(self.reason),
+            text_length(self.reason),
+            text_start(self.code),
+            text_length(self.code),
+        ]
+    }
+}
+
 // BG-3 preceding invoice: BT-25, BT-26.
 #[derive(Clone, Copy)]
 pub struct Preceding {
     pub reference: Place,
     pub date: Option<u32>,
+}
+
+impl Preceding {
+    // The row of a preceding invoice.
+    pub fn row(self) -> [i64; HELD_WIDTH]
+        ensures { result ≡ held_row (preceding (preceding_of self)) }
+    {
+        [
+            Kind::Preceding as i64,
+            self.reference.start(),
+            self.reference.length(),
+            or_absent(self.date),
+            0,
+            0,
+            0,
+            0,
+            0,
+            0,
+            0,
+            0,
+            0,
+            0,
+        ]
+    }
 }
 
 // The lent rows of what is held, and where the next goes.
@@ -69,128 +169,32 @@ pub struct HeldRows<'a> {
 }
 
 impl HeldRows<'_> {
-    // Holds a credit transfer.
+    // Holds a credit transfer. A line each for the four kinds of rows: a trait of theirs would carry the
+    // definition of each as a ghost member, and be longer.
     pub fn hold_transfer(&mut self, t: Transfer)
         ensures { Holds (transfer (transfer_of t) ∷ []) self.old self.new }
     {
-        self.at = put_transfer(self.list, self.at, t);
+        self.at = put_row(self.list, self.at, &t.row());
     }
 
     // Holds a VAT breakdown.
     pub fn hold_vat(&mut self, v: Vat)
         ensures { Holds (vat (vat_of v) ∷ []) self.old self.new }
     {
-        self.at = put_vat(self.list, self.at, v);
+        self.at = put_row(self.list, self.at, &v.row());
     }
 
     // Holds a charge or an allowance.
     pub fn hold_allowance_charge(&mut self, charge: bool, a: AllowanceCharge)
         ensures { Holds (held_as charge (allowance_charge_of a) ∷ []) self.old self.new }
     {
-        self.at = put_allowance_charge(self.list, self.at, charge, a);
+        self.at = put_row(self.list, self.at, &a.row(charge));
     }
 
     // Holds a preceding invoice.
     pub fn hold_preceding(&mut self, p: Preceding)
         ensures { Holds (preceding (preceding_of p) ∷ []) self.old self.new }
     {
-        self.at = put_preceding(self.list, self.at, p);
+        self.at = put_row(self.list, self.at, &p.row());
     }
-}
-
-// Puts a credit transfer's row into a list at a place, and answers where the next goes.
-pub fn put_transfer(list: &mut [i64], at: usize, t: Transfer) -> usize
-    ensures { Placed list.old at (held_row (transfer (transfer_of t))) list.new result }
-{
-    let row: [i64; HELD_WIDTH] = [
-        Kind::Transfer as i64,
-        text_start(t.account),
-        text_length(t.account),
-        text_start(t.name),
-        text_length(t.name),
-        text_start(t.provider),
-        text_length(t.provider),
-        0,
-        0,
-        0,
-        0,
-        0,
-        0,
-        0,
-    ];
-    put_row(list, at, &row)
-}
-
-// Puts a VAT breakdown's row into a list at a place, and answers where the next goes.
-pub fn put_vat(list: &mut [i64], at: usize, v: Vat) -> usize
-    ensures { Placed list.old at (held_row (vat (vat_of v))) list.new result }
-{
-    let row: [i64; HELD_WIDTH] = [
-        Kind::Vat as i64,
-        v.taxable.to_minor_units(),
-        v.tax.to_minor_units(),
-        v.category.start(),
-        v.category.length(),
-        percent_unscaled(v.rate),
-        percent_scale(v.rate),
-        text_start(v.reason),
-        text_length(v.reason),
-        text_start(v.code),
-        text_length(v.code),
-        0,
-        0,
-        0,
-    ];
-    put_row(list, at, &row)
-}
-
-// Puts the row of a charge or an allowance into a list at a place, and answers where the next goes.
-pub fn put_allowance_charge(list: &mut [i64], at: usize, charge: bool, a: AllowanceCharge) -> usize
-    ensures { Placed list.old at (held_row (held_as charge (allowance_charge_of a))) list.new result }
-{
-    let kind = if charge {
-        Kind::Charge as i64
-    } else {
-        Kind::Allowance as i64
-    };
-    let row: [i64; HELD_WIDTH] = [
-        kind,
-        a.amount.to_minor_units(),
-        amount_present(a.base),
-        amount_hundredths(a.base),
-        percent_unscaled(a.percentage),
-        percent_scale(a.percentage),
-        a.category.start(),
-        a.category.length(),
-        percent_unscaled(a.rate),
-        percent_scale(a.rate),
-        text_start(a.reason),
-        text_length(a.reason),
-        text_start(a.code),
-        text_length(a.code),
-    ];
-    put_row(list, at, &row)
-}
-
-// Puts a preceding invoice's row into a list at a place, and answers where the next goes.
-pub fn put_preceding(list: &mut [i64], at: usize, p: Preceding) -> usize
-    ensures { Placed list.old at (held_row (preceding (preceding_of p))) list.new result }
-{
-    let row: [i64; HELD_WIDTH] = [
-        Kind::Preceding as i64,
-        p.reference.start(),
-        p.reference.length(),
-        or_absent(p.date),
-        0,
-        0,
-        0,
-        0,
-        0,
-        0,
-        0,
-        0,
-        0,
-        0,
-    ];
-    put_row(list, at, &row)
 }

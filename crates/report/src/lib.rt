@@ -11,13 +11,10 @@ mod list;
 mod unmapped_row;
 mod value;
 
-pub use entry::{Entry, put_entry};
-pub use held::{
-    AllowanceCharge, HeldRows, Preceding, Transfer, Vat, put_allowance_charge, put_preceding,
-    put_transfer, put_vat,
-};
+pub use entry::Entry;
+pub use held::{AllowanceCharge, HeldRows, Preceding, Transfer, Vat};
 pub use list::{
     ENTRY_ROOM, ENTRY_WIDTH, HELD_ROOM, HELD_WIDTH, UNMAPPED_ROOM, UNMAPPED_WIDTH, behind, put_row,
 };
-pub use unmapped_row::{Unmapped, put_unmapped};
+pub use unmapped_row::Unmapped;
 pub use value::{Place, amount_hundredths, amount_present, or_absent, text_length, text_start};

@@ -23,7 +23,7 @@ use Rattle.totals.specs.Reading.{totals_of}
 use Rattle.steps.specs.States.{maybe_payee_of, maybe_period_of}
 use Rattle.terms.specs.Terms.{terms_of}
 use Rattle.reader.specs.Answered.{Answered}
-use Rattle.reader.specs.declared.answer.Answer as Code
+use Rattle.reader.specs.Answers.{Answer}
 use Rattle.terms.specs.declared.terms.Terms as CodeTerms
 use Rattle.rulzhamm.specs.Called.{Called}
 use Rattle.rulzhamm.specs.Parts.{plain_cells, payment_cells, count_cells, answer_cells, Small}
@@ -79,11 +79,11 @@ filled : (l vs : List ℤ) {m : List ℤ} → length vs ≡ length l → m ≡ p
 filled l vs e p = p ∙ put_eq l 0 vs (omega (arith, e)) ∙ ap (λ (r : List ℤ). vs ++ r) (drop_of_length-le l {i = 0 + length vs} (omega (arith, e))) ∙ append-nil vs
 
 -- counts, then terms
-pub answer_placed : (a : Code.Answer) {l l₁ l₂ : List ℤ} {a₁ a₂ : ℕ} → length l ≡ 65 → Placed l 0 (count_cells a) l₁ a₁ → Placed l₁ a₁ (terms_row (terms_of a.terms)) l₂ a₂ → l₂ ≡ answer_cells a
-answer_placed a {l} e p q = filled l (answer_cells a) (omega (arith, terms_width (terms_of a.terms), e)) (placed_then p q).now
+pub answer_placed : (a : Answer) {l l₁ l₂ : List ℤ} {a₁ a₂ : ℕ} → length l ≡ 65 → Placed l 0 (count_cells a) l₁ a₁ → Placed l₁ a₁ (terms_row a.terms) l₂ a₂ → l₂ ≡ answer_cells a
+answer_placed a {l} e p q = filled l (answer_cells a) (omega (arith, terms_width a.terms, e)) (placed_then p q).now
 
 -- what `read` answered, put as a row
-pub called : {o : Outcome} {a : Code.Answer} {n h h' e e' u u' : List ℤ} → Answered o a h h' e e' u u' → n ≡ answer_cells a → Called o n h h' e e' u u'
+pub called : {o : Outcome} {a : Answer} {n h h' e e' u u' : List ℤ} → Answered o a h h' e e' u u' → n ≡ answer_cells a → Called o n h h' e e' u u'
 unfolding answer_row
 called {o} {a} r p =
     record {
@@ -94,7 +94,7 @@ called {o} {a} r p =
     }
 
 -- its record and counts are small
-pub small : (L : Lent) (m : Room) (t x : List ℕ) {a : Code.Answer} {h h' e e' u u' : List ℤ} → Answered (outcome L m t x) a h h' e e' u u' → Small a
+pub small : (L : Lent) (m : Room) (t x : List ℕ) {a : Answer} {h h' e e' u u' : List ℤ} → Answered (outcome L m t x) a h h' e e' u u' → Small a
 small L m t x r =
     let c = counts_small L m t x in
     (omega (arith, r.place, place_small L m t x), omega (arith, r.held_count, c.0), omega (arith, r.entry_count, c.1), omega (arith, r.unmapped_count, c.2))

@@ -1,11 +1,10 @@
--- The code's answer as a row, in the parts in which it is put.
+-- The answer as a row, in the parts in which it is put.
 use Rattle.text.specs.Options.{option_of}
 use Rattle.std.specs.Prelude.{List, [], ◌∷◌, ◌++◌, ◌<◌, ◌^◌, ℤ, pos}
 use Rattle.report.specs.Encoding.{text_cells, or_absent}
 use Rattle.report.specs.Values.{text_of}
 use Rattle.settlement.specs.Result.{flag, terms_row}
-use Rattle.terms.specs.Terms.{terms_of}
-use Rattle.reader.specs.declared.answer.Answer.{Answer}
+use Rattle.reader.specs.Answers.{Answer}
 use Rattle.terms.specs.declared.terms.Terms.{Terms}
 
 -- BT-5 to BT-9, BT-19 and BT-20
@@ -29,7 +28,7 @@ count_cells a = pos a.refusal ∷ pos a.place ∷ pos a.held ∷ pos a.entries �
 
 -- the whole row
 abbrev pub answer_cells : Answer → List ℤ
-answer_cells a = count_cells a ++ terms_row (terms_of a.terms)
+answer_cells a = count_cells a ++ terms_row a.terms
 
 -- record and counts are numbers of 63 bits
 abbrev pub Small : Answer → Type 0

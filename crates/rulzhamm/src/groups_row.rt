@@ -1,5 +1,6 @@
 // The groups of the answer's row: payee, period, means and totals, each with a number that says whether
 // it is there.
+ghost use Rattle.std.specs.Prelude.{◌≡◌};
 ghost use Rattle.report.specs.Placed.{Placed};
 ghost use Rattle.settlement.specs.Result.{identifier_cells, payee_cells, period_cells, means_cells, totals_cells};
 ghost use Rattle.groups.specs.Groups.{maybe_identifier_of};
@@ -13,20 +14,17 @@ use report::{amount_hundredths, amount_present, or_absent, put_row, text_length,
 use totals::Totals;
 
 // An identifier and its scheme.
-fn put_identifier(row: &mut [i64], at: usize, i: Option<Identifier>) -> usize
-    ensures { Placed row.old at (identifier_cells (maybe_identifier_of i)) row.new result }
+fn identifier_cells(i: Option<Identifier>) -> [i64; 4]
+    ensures { result ≡ identifier_cells (maybe_identifier_of i) }
 {
     match i {
-        None => put_row(row, at, &[-1, 0, -1, 0]),
-        Some(id) => {
-            let cells: [i64; 4] = [
-                id.content.start(),
-                id.content.length(),
-                text_start(id.scheme),
-                text_length(id.scheme),
-            ];
-            put_row(row, at, &cells)
-        }
+        None => [-1, 0, -1, 0],
+        Some(id) => [
+            id.content.start(),
+            id.content.length(),
+            text_start(id.scheme),
+            text_length(id.scheme),
+        ],
     }
 }
 
@@ -39,66 +37,57 @@ pub(crate) fn put_payee(row: &mut [i64], at: usize, p: Option<Payee>) -> usize
         Some(payee) => {
             let cells: [i64; 3] = [1, text_start(payee.name), text_length(payee.name)];
             let at = put_row(row, at, &cells);
-            let at = put_identifier(row, at, payee.identifier);
-            put_identifier(row, at, payee.legal)
+            let at = put_row(row, at, &identifier_cells(payee.identifier));
+            put_row(row, at, &identifier_cells(payee.legal))
         }
     }
 }
 
 // BG-14: whether there is one, BT-73, BT-74.
-pub(crate) fn put_period(row: &mut [i64], at: usize, p: Option<Period>) -> usize
-    ensures { Placed row.old at (period_cells (maybe_period_of p)) row.new result }
+pub(crate) fn period_cells(p: Option<Period>) -> [i64; 3]
+    ensures { result ≡ period_cells (maybe_period_of p) }
 {
     match p {
-        None => put_row(row, at, &[0, -1, -1]),
-        Some(period) => {
-            let cells: [i64; 3] = [1, or_absent(period.start), or_absent(period.end)];
-            put_row(row, at, &cells)
-        }
+        None => [0, -1, -1],
+        Some(period) => [1, or_absent(period.start), or_absent(period.end)],
     }
 }
 
 // BG-18 with BT-87 and BT-88, BG-19 with BT-91.
-pub(crate) fn put_means(row: &mut [i64], at: usize, m: Means) -> usize
-    ensures { Placed row.old at (means_cells (means_of m)) row.new result }
+pub(crate) fn means_cells(m: Means) -> [i64; 8]
+    ensures { result ≡ means_cells (means_of m) }
 {
     match m {
-        Means::Unset => put_row(row, at, &[0, -1, 0, -1, 0, 0, -1, 0]),
-        Means::Transfers => put_row(row, at, &[0, -1, 0, -1, 0, 0, -1, 0]),
-        Means::Card(card) => {
-            let cells: [i64; 8] = [
-                1,
-                text_start(card.number),
-                text_length(card.number),
-                text_start(card.holder),
-                text_length(card.holder),
-                0,
-                -1,
-                0,
-            ];
-            put_row(row, at, &cells)
-        }
-        Means::Debit(account) => {
-            let cells: [i64; 8] = [
-                0,
-                -1,
-                0,
-                -1,
-                0,
-                1,
-                text_start(account),
-                text_length(account),
-            ];
-            put_row(row, at, &cells)
-        }
+        Means::Unset => [0, -1, 0, -1, 0, 0, -1, 0],
+        Means::Transfers => [0, -1, 0, -1, 0, 0, -1, 0],
+        Means::Card(card) => [
+            1,
+            text_start(card.number),
+            text_length(card.number),
+            text_start(card.holder),
+            text_length(card.holder),
+            0,
+            -1,
+            0,
+        ],
+        Means::Debit(account) => [
+            0,
+            -1,
+            0,
+            -1,
+            0,
+            1,
+            text_start(account),
+            text_length(account),
+        ],
     }
 }
 
 // BG-22: BT-106 to BT-115.
-pub(crate) fn put_totals(row: &mut [i64], at: usize, t: Totals) -> usize
-    ensures { Placed row.old at (totals_cells (totals_of t)) row.new result }
+pub(crate) fn totals_cells(t: Totals) -> [i64; 16]
+    ensures { result ≡ totals_cells (totals_of t) }
 {
-    let cells: [i64; 16] = [
+    [
         t.line.to_minor_units(),
         amount_present(t.sums.allowance),
         amount_hundredths(t.sums.allowance),
@@ -115,6 +104,5 @@ pub(crate) fn put_totals(row: &mut [i64], at: usize, t: Totals) -> usize
         amount_present(t.sums.rounding),
         amount_hundredths(t.sums.rounding),
         t.due.to_minor_units(),
-    ];
-    put_row(row, at, &cells)
+    ]
 }

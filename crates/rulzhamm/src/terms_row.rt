@@ -1,18 +1,20 @@
 // The answer as one row: refusal number, record, three counts, the terms.
-ghost use Rattle.std.specs.Prelude.{◌≡◌, ◌<◌, ◌^◌, pos};
+ghost use Rattle.std.specs.Prelude.{◌≡◌, ◌<◌, ◌^◌, pos, Ok, Err};
 ghost use Rattle.report.specs.Placed.{Placed};
 ghost use Rattle.report.specs.Encoding.{text_cells};
 ghost use Rattle.report.specs.Values.{text_of};
 ghost use Rattle.settlement.specs.Result.{flag, terms_row};
 ghost use Rattle.terms.specs.Terms.{terms_of};
+ghost use Rattle.reader.specs.Answers.{answer_of};
 ghost use Rattle.rulzhamm.specs.Parts.{plain_cells, payment_cells, count_cells, answer_cells, Small};
 
-use crate::groups_row::{put_means, put_payee, put_period, put_totals};
-use reader::Answer;
+use crate::groups_row::{means_cells, period_cells, put_payee, totals_cells};
+use reader::Reading;
+use refusals::Refusal;
 use report::{Place, or_absent, put_row, text_length, text_start};
 use terms::Terms;
 
-// A count as a signed number.
+// A count as a signed number: it fits, so that no `try_from` is asked.
 fn signed(n: usize) -> i64
     requires { n < 2 ^ 63 }
     ensures { result ≡ pos n }
@@ -28,18 +30,17 @@ fn flag_number(there: bool) -> i64
 }
 
 // A text.
-fn put_text(row: &mut [i64], at: usize, t: Option<Place>) -> usize
-    ensures { Placed row.old at (text_cells (text_of t)) row.new result }
+fn text_cells(t: Option<Place>) -> [i64; 2]
+    ensures { result ≡ text_cells (text_of t) }
 {
-    let cells: [i64; 2] = [text_start(t), text_length(t)];
-    put_row(row, at, &cells)
+    [text_start(t), text_length(t)]
 }
 
 // BT-5 to BT-9, BT-19 and BT-20.
-fn put_plain(row: &mut [i64], at: usize, t: Terms) -> usize
-    ensures { Placed row.old at (plain_cells t) row.new result }
+fn plain_cells(t: Terms) -> [i64; 11]
+    ensures { result ≡ plain_cells t }
 {
-    let cells: [i64; 11] = [
+    [
         text_start(t.bt5),
         text_length(t.bt5),
         text_start(t.bt6),
@@ -51,15 +52,14 @@ fn put_plain(row: &mut [i64], at: usize, t: Terms) -> usize
         text_length(t.bt19),
         text_start(t.bt20),
         text_length(t.bt20),
-    ];
-    put_row(row, at, &cells)
+    ]
 }
 
 // Whether there is BG-16, and BT-81 to BT-83.
-fn put_payment(row: &mut [i64], at: usize, t: Terms) -> usize
-    ensures { Placed row.old at (payment_cells t) row.new result }
+fn payment_cells(t: Terms) -> [i64; 7]
+    ensures { result ≡ payment_cells t }
 {
-    let cells: [i64; 7] = [
+    [
         flag_number(t.paid),
         text_start(t.bt81),
         text_length(t.bt81),
@@ -67,44 +67,64 @@ fn put_payment(row: &mut [i64], at: usize, t: Terms) -> usize
         text_length(t.bt82),
         text_start(t.bt83),
         text_length(t.bt83),
-    ];
-    put_row(row, at, &cells)
+    ]
 }
 
-// All terms.
-pub(crate) fn put_terms(row: &mut [i64], at: usize, t: Terms) -> usize
+// Puts all terms into the row at a place, and answers where the next numbers go.
+fn put_terms(row: &mut [i64], at: usize, t: Terms) -> usize
     ensures { Placed row.old at (terms_row (terms_of t)) row.new result }
 {
-    let at = put_plain(row, at, t);
+    let at = put_row(row, at, &plain_cells(t));
     let at = put_payee(row, at, t.payee);
-    let at = put_period(row, at, t.period);
-    let at = put_payment(row, at, t);
-    let at = put_means(row, at, t.means);
-    let at = put_text(row, at, t.bt89);
-    let at = put_text(row, at, t.bt90);
-    put_totals(row, at, t.totals)
+    let at = put_row(row, at, &period_cells(t.period));
+    let at = put_row(row, at, &payment_cells(t));
+    let at = put_row(row, at, &means_cells(t.means));
+    let at = put_row(row, at, &text_cells(t.bt89));
+    let at = put_row(row, at, &text_cells(t.bt90));
+    put_row(row, at, &totals_cells(t.totals))
 }
 
-// Refusal number, record and counts.
-fn put_counts(row: &mut [i64], a: Answer) -> usize
-    requires { Small a }
-    ensures { Placed row.old 0 (count_cells a) row.new result }
+// The counts of a reading, behind 0 for refusal and record.
+fn reading_counts(reading: Reading) -> [i64; 5]
+    requires { Small (answer_of (Ok reading)) }
+    ensures { result ≡ count_cells (answer_of (Ok reading)) }
 {
-    let cells: [i64; 5] = [
-        signed(a.refusal as usize),
-        signed(a.place),
-        signed(a.held),
-        signed(a.entries),
-        signed(a.unmapped),
-    ];
-    put_row(row, 0, &cells)
+    [
+        0,
+        0,
+        signed(reading.held),
+        signed(reading.entries),
+        signed(reading.unmapped),
+    ]
 }
 
-// The whole answer.
-pub(crate) fn put_answer(row: &mut [i64; 65], a: Answer)
-    requires { Small a }
-    ensures { row.new ≡ answer_cells a }
+// The number and the record of a refusal, before counts of 0.
+fn refusal_counts(refusal: Refusal) -> [i64; 5]
+    requires { Small (answer_of (Err refusal)) }
+    ensures { result ≡ count_cells (answer_of (Err refusal)) }
 {
-    let at = put_counts(row, a);
-    put_terms(row, at, a.terms);
+    [
+        i64::from(u32::from(refusal.reason)),
+        signed(refusal.record),
+        0,
+        0,
+        0,
+    ]
+}
+
+// The whole answer: its counts, and its terms, blank ones where it is a refusal.
+pub(crate) fn put_answer(row: &mut [i64; 65], answer: Result<Reading, Refusal>)
+    requires { Small (answer_of answer) }
+    ensures { row.new ≡ answer_cells (answer_of answer) }
+{
+    match answer {
+        Ok(reading) => {
+            let at = put_row(row, 0, &reading_counts(reading));
+            put_terms(row, at, reading.terms);
+        }
+        Err(refusal) => {
+            let at = put_row(row, 0, &refusal_counts(refusal));
+            put_terms(row, at, terms::blank_terms());
+        }
+    }
 }

@@ -14,7 +14,6 @@ use Rattle.codes.specs.declared.rules.Rule.{Rule}
 use Rattle.date.specs.Date.{parsed_date}
 use Rattle.names.specs.declared.message.Message.{Message}
 use Rattle.names.specs.declared.path.Path.{Path}
-use Rattle.names.specs.declared.term.Term.TheVariants as Term
 use Rattle.settlement.specs.Document.{Doc, maybe, or_else, or}
 use Rattle.settlement.specs.Values.{Lent, Site, site, Says, amount_message, percent_message, date_message, entry, missing, text_in, own_text, text_bytes, kid, kid_text, attribute, required_code, answered, percent_of, percent, date_from, other_spelling, date_in, date, parsed, wrong_currency, in_currency, amount_from, amount_of, amount, required_amount}
 use Rattle.settlement.specs.Tax.{TaxPaths, GroupTerms, category_in, category_of}
@@ -52,8 +51,8 @@ module _ {N X : Type 0} (mode : ℕ) (D : Doc N X) where
   unfolding date_from day_at
   from_is p e = go (maybe true (λ f. date_format (D.bytes f)) (D.attr e (bytes "format")))
     where
-      go : (b : Bool) → (cond b (answered mode D date_message (site p Term.None) e (parsed_date mode (text_bytes D e))) (none, entry Message.DateFormat (site p Term.None) (some (own_text D mode e)) ∷ [])).0 ≡ cond b (parsed_date mode (text_bytes D e)).value none
-      go true = answered_is date_message (site p Term.None) e (parsed_date mode (text_bytes D e))
+      go : (b : Bool) → (cond b (answered mode D date_message (site p none) e (parsed_date mode (text_bytes D e))) (none, entry Message.DateFormat (site p none) (some (own_text D mode e)) ∷ [])).0 ≡ cond b (parsed_date mode (text_bytes D e)).value none
+      go true = answered_is date_message (site p none) e (parsed_date mode (text_bytes D e))
       go false = refl
 
   spelt_is : (p : Path) (e : N) (b : Bool) → (cond b (date_from mode D p e) (other_spelling mode D p e)).0 ≡ day_at mode D e

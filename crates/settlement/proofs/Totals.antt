@@ -10,7 +10,6 @@ use Rattle.text.specs.Utf8.{bytes, encode}
 use Rattle.amount.specs.Amount.{parsed_amount}
 use Rattle.names.specs.declared.message.Message.TheVariants as Message
 use Rattle.names.specs.declared.path.Path.TheVariants as Path
-use Rattle.names.specs.declared.term.Term.TheVariants as Term
 use Rattle.report.specs.Rows.{Entry}
 use Rattle.settlement.specs.Document.{Doc, maybe, or_else, or}
 use Rattle.settlement.specs.Kinds.{Kind, summation, same_kind, home}
@@ -121,7 +120,7 @@ module _ {N X : Type 0} (L : Lent) (D : Doc N X) (cur : Currencies X) where
   unfolding tax_total_of sets_vat fills_vat has_no_currency is_in_currency tax_amount_at tax_amount
   taxed s c =
       subst (λ (a : Option ℤ). Taxed (sets_vat D cur c) (fills_vat D cur c) (is_in_currency D cur.bt6 c) a s (tax_total_of L D cur s c))
-      (answered_is L.mode D (λ n. Message.TaxTotalUnreadable) (site Path.SummationTaxTotalAmount Term.None) c (parsed_amount L.mode (text_bytes D c)))
+      (answered_is L.mode D (λ n. Message.TaxTotalUnreadable) (site Path.SummationTaxTotalAmount none) c (parsed_amount L.mode (text_bytes D c)))
       (taxed_in (tax_amount L.mode D c).0 (tax_amount L.mode D c).1 s (attribute D c (bytes "currencyID")))
 
   -- one child: what its name makes of an amount

@@ -58,7 +58,7 @@ edges =
     (vat_point_date_code_of (bytes "5") ≡ read 3) ∷
     (vat_point_date_code_of (bytes "3") ≡ says 15) ∷
     ((reading lent tree_doc (settlement (branch "ApplicableTradeTax" (leaf "DueDateTypeCode" "3" ∷ []) ∷ []))).entries ≡
-    record { message = Message.UnknownVatPointCode; path = Path.TradeTaxDueDateTypeCode; term = Term.Bt8; index = none; value = some (bytes "3") } ∷ []) ∷
+    record { message = Message.UnknownVatPointCode; path = Path.TradeTaxDueDateTypeCode; term = some Term.Bt8; index = none; value = some (bytes "3") } ∷ []) ∷
     ((reading lent tree_doc (settlement (leaf "InvoiceCurrencyCode" "EUR" ∷ leaf "TaxCurrencyCode" "EUR" ∷ branch "SpecifiedTradeSettlementHeaderMonetarySummation" (in_currency "EUR" "TaxTotalAmount" "10.00" ∷ in_currency "EUR" "TaxTotalAmount" "12.00" ∷ []) ∷ []))).terms.totals ≡
     record { line = pos 0; allowance = none; charge = none; taxable = pos 0; vat = some (pos 1000); vat_accounting = some (pos 1200); gross = pos 0; paid = none; rounding = none; due = pos 0 }) ∷
     []

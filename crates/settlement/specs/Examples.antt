@@ -95,24 +95,24 @@ pub record Examples (L : Lent) : Type 0 where
   pub empty_amounts : (reading_with (branch "ApplicableTradeTax" (in_currency "EURO" "BasisAmount" " " ∷ []) ∷ branch "SpecifiedTradeSettlementHeaderMonetarySummation" (in_currency "EURO" "RoundingAmount" " " ∷ []) ∷ [])).entries ≡ []
   -- 12, not CCYYMMDD; 13, no such day
   pub dates : (reading_with (branch "BillingSpecifiedPeriod" (branch "StartDateTime" (leaf "DateTimeString" "2024022" ∷ []) ∷ branch "EndDateTime" (leaf "DateTimeString" "20230229" ∷ []) ∷ []) ∷ [])).entries ≡
-      entry Message.NotCcyymmdd (site Path.PeriodStartDateTimeString Term.None) (some (bytes "2024022")) ∷ entry Message.NoSuchDay (site Path.PeriodEndDateTimeString Term.None) (some (bytes "20230229")) ∷ []
+      entry Message.NotCcyymmdd (site Path.PeriodStartDateTimeString none) (some (bytes "2024022")) ∷ entry Message.NoSuchDay (site Path.PeriodEndDateTimeString none) (some (bytes "20230229")) ∷ []
   -- 18: a bad indicator is said, and means an allowance
-  pub indicator_entries : (reading_with bad_indicator).entries ≡ entry Message.IndicatorMalformed (site Path.AllowanceChargeIndicator Term.None) (some (bytes "yes")) ∷ []
+  pub indicator_entries : (reading_with bad_indicator).entries ≡ entry Message.IndicatorMalformed (site Path.AllowanceChargeIndicator none) (some (bytes "yes")) ∷ []
   pub indicator_rows : (reading_with bad_indicator).held ≡ allowance (record { amount = pos 500; base = none; percentage = none; category = []; rate = none; reason = none; code = none }) ∷ []
   -- IBANID counts before ProprietaryID, wherever it stands, unless it is blank
   pub accounts : (reading_with (branch "SpecifiedTradeSettlementPaymentMeans" (branch "PayeePartyCreditorFinancialAccount" (leaf "ProprietaryID" "P1" ∷ leaf "IBANID" "DE1" ∷ []) ∷ branch "PayeePartyCreditorFinancialAccount" (leaf "IBANID" " " ∷ leaf "ProprietaryID" "P2" ∷ []) ∷ []) ∷ [])).held ≡
       transfer (record { account = some (bytes "DE1"); name = none; provider = none }) ∷ transfer (record { account = some (bytes "P2"); name = none; provider = none }) ∷ []
   -- at the end: without a summation the four absences (9), then a mandate (25) and a creditor identifier (26) beside a card, whatever order they stand in
   pub ending : (reading L tree_doc (settlement (leaf "CreditorReferenceID" "C" ∷ branch "SpecifiedTradeSettlementPaymentMeans" (branch "ApplicableTradeSettlementFinancialCard" [] ∷ []) ∷ branch "SpecifiedTradePaymentTerms" (leaf "DirectDebitMandateID" "M" ∷ []) ∷ []))).entries ≡
-      entry Message.Missing (site Path.SettlementSummation Term.Bt106) none ∷
-      entry Message.Missing (site Path.SettlementSummation Term.Bt109) none ∷
-      entry Message.Missing (site Path.SettlementSummation Term.Bt112) none ∷
-      entry Message.Missing (site Path.SettlementSummation Term.Bt115) none ∷
-      entry Message.MandateBesideOther (site Path.PaymentTermsDirectDebitMandate Term.None) none ∷
-      entry Message.CreditorBesideOther (site Path.SettlementCreditorReference Term.None) none ∷ []
+      entry Message.Missing (site Path.SettlementSummation (some Term.Bt106)) none ∷
+      entry Message.Missing (site Path.SettlementSummation (some Term.Bt109)) none ∷
+      entry Message.Missing (site Path.SettlementSummation (some Term.Bt112)) none ∷
+      entry Message.Missing (site Path.SettlementSummation (some Term.Bt115)) none ∷
+      entry Message.MandateBesideOther (site Path.PaymentTermsDirectDebitMandate none) none ∷
+      entry Message.CreditorBesideOther (site Path.SettlementCreditorReference none) none ∷ []
   -- a tax total in a third currency: 16 where it is unreadable, then 17
   pub third_currency : (reading_with (leaf "InvoiceCurrencyCode" "EUR" ∷ leaf "TaxCurrencyCode" "USD" ∷ branch "SpecifiedTradeSettlementHeaderMonetarySummation" (in_currency "CHF" "TaxTotalAmount" "x" ∷ []) ∷ [])).entries ≡
-      entry Message.TaxTotalUnreadable (site Path.SummationTaxTotalAmount Term.None) (some (bytes "x")) ∷ entry Message.TaxTotalCurrency (site Path.SummationTaxTotalAmount Term.Bt110) (some (bytes "CHF")) ∷ []
+      entry Message.TaxTotalUnreadable (site Path.SummationTaxTotalAmount none) (some (bytes "x")) ∷ entry Message.TaxTotalCurrency (site Path.SummationTaxTotalAmount (some Term.Bt110)) (some (bytes "CHF")) ∷ []
   -- an unreadable tax total does not leave the earlier amount standing: without currencyID and in BT-5 it makes BT-110 blank, in BT-6 BT-111
   pub unreadable : ((totals_with "USD" (leaf "TaxTotalAmount" "10.00" ∷ [])).vat ≡ some (pos 1000)) × ((totals_with "USD" (leaf "TaxTotalAmount" "10.00" ∷ leaf "TaxTotalAmount" "x" ∷ [])).vat ≡ none)
   pub unreadable_bt5 : ((totals_with "USD" (in_currency "EUR" "TaxTotalAmount" "10.00" ∷ [])).vat ≡ some (pos 1000)) × ((totals_with "USD" (in_currency "EUR" "TaxTotalAmount" "10.00" ∷ in_currency "EUR" "TaxTotalAmount" "x" ∷ [])).vat ≡ none)
@@ -122,7 +122,7 @@ pub record Examples (L : Lent) : Type 0 where
       record { line = pos 0; allowance = none; charge = none; taxable = pos 0; vat = some (pos 1000); vat_accounting = none; gross = pos 0; paid = none; rounding = none; due = pos 0 }
   -- R-1: in mode 1 line ends are trimmed, and of line ends alone nothing is left: a required amount is missing (9), an optional one and a rate are absent, a date has an empty value (12)
   pub line_ends : reading_of_lines.entries ≡
-      entry Message.Missing (grouped Path.SettlementTradeTax Term.Bt116 0) none ∷ entry Message.NotCcyymmdd (site Path.PaymentTermsDueDateTimeString Term.None) (some []) ∷ []
+      entry Message.Missing (grouped Path.SettlementTradeTax Term.Bt116 0) none ∷ entry Message.NotCcyymmdd (site Path.PaymentTermsDueDateTimeString none) (some []) ∷ []
   pub line_ends_rows : reading_of_lines.held ≡ vat (record { taxable = pos 0; tax = pos 1900; category = bytes "S"; rate = some (pos 19, 0); reason = none; code = none }) ∷ vat (record { taxable = pos 100; tax = pos 0; category = []; rate = none; reason = none; code = none }) ∷ []
   pub line_ends_totals : reading_of_lines.terms.totals ≡
       record { line = pos 0; allowance = none; charge = some (pos 100); taxable = pos 0; vat = none; vat_accounting = none; gross = pos 0; paid = none; rounding = none; due = pos 0 }

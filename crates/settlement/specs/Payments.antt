@@ -7,7 +7,6 @@ use Rattle.text.specs.Utf8.{bytes}
 use Rattle.names.specs.declared.message.Message.{Message}
 use Rattle.names.specs.declared.parent.Parent.TheVariants as Parent
 use Rattle.names.specs.declared.path.Path.{Path}
-use Rattle.names.specs.declared.term.Term.TheVariants as Term
 use Rattle.report.specs.Rows.{Entry, Transfer, transfer, Unmapped}
 use Rattle.settlement.specs.Document.{Doc, maybe, or_else}
 use Rattle.settlement.specs.Kinds.{meant}
@@ -45,7 +44,7 @@ provided o t (u ∷ l) = t ∷ provided o u l
 
 -- what the model can't hold is said
 unfoldable pub not_held : {X : Type 0} → Message → Path → Paying X → Paying X
-not_held m p s = record { payment = s.payment; last = s.last; rows = s.rows; says = s.says ++ (entry m (site p Term.None) none ∷ []); strays = s.strays }
+not_held m p s = record { payment = s.payment; last = s.last; rows = s.rows; says = s.says ++ (entry m (site p none) none ∷ []); strays = s.strays }
 
 -- with another kind of means
 unfoldable pub with_means : {X : Type 0} → Means X → Paying X → Paying X

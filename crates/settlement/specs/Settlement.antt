@@ -98,8 +98,8 @@ module _ {X : Type 0} where
         mandate = none;
         creditor = none;
         says =
-            maybe [] (λ x. entry Message.MandateBesideOther (site Path.PaymentTermsDirectDebitMandate Term.None) none ∷ []) a ++
-            maybe [] (λ x. entry Message.CreditorBesideOther (site Path.SettlementCreditorReference Term.None) none ∷ []) c;
+            maybe [] (λ x. entry Message.MandateBesideOther (site Path.PaymentTermsDirectDebitMandate none) none ∷ []) a ++
+            maybe [] (λ x. entry Message.CreditorBesideOther (site Path.SettlementCreditorReference none) none ∷ []) c;
       }
 
   -- by the kind of means
@@ -140,9 +140,9 @@ module _ {X : Type 0} where
 unfoldable pub late_of : {X : Type 0} → ℕ → State X → List (Entry X)
 late_of rules s =
     maybe
-    (missing rules Rule.Br12 (site Path.SettlementSummation Term.Bt106) ++
-    (missing rules Rule.Br13 (site Path.SettlementSummation Term.Bt109) ++
-    (missing rules Rule.Br14 (site Path.SettlementSummation Term.Bt112) ++ missing rules Rule.Br15 (site Path.SettlementSummation Term.Bt115))))
+    (missing rules Rule.Br12 (site Path.SettlementSummation (some Term.Bt106)) ++
+    (missing rules Rule.Br13 (site Path.SettlementSummation (some Term.Bt109)) ++
+    (missing rules Rule.Br14 (site Path.SettlementSummation (some Term.Bt112)) ++ missing rules Rule.Br15 (site Path.SettlementSummation (some Term.Bt115)))))
     (λ t. []) (s summation) ++
     (debit_of s).says
 

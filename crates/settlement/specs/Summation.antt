@@ -69,11 +69,11 @@ module _ {N X : Type 0} (D : Doc N X) where
   tax_in cur a es s c =
       cond (is_currency cur.bt6 c) (with_vat (cond (is_currency cur.bt5 c && is_none s.vat) a s.vat) a es s)
       (cond (is_currency cur.bt5 c) (with_vat a s.vat_accounting es s)
-      (with_vat s.vat s.vat_accounting (es ++ (entry Message.TaxTotalCurrency (site Path.SummationTaxTotalAmount Term.Bt110) (some c) ∷ [])) s))
+      (with_vat s.vat s.vat_accounting (es ++ (entry Message.TaxTotalCurrency (site Path.SummationTaxTotalAmount (some Term.Bt110)) (some c) ∷ [])) s))
 
 -- a tax total's own text as an amount; 16 where it is unreadable
 unfoldable pub tax_amount : {N X : Type 0} → ℕ → Doc N X → N → Says X (Option ℤ)
-tax_amount mode D c = answered mode D (λ n. Message.TaxTotalUnreadable) (site Path.SummationTaxTotalAmount Term.None) c (parsed_amount mode (text_bytes D c))
+tax_amount mode D c = answered mode D (λ n. Message.TaxTotalUnreadable) (site Path.SummationTaxTotalAmount none) c (parsed_amount mode (text_bytes D c))
 
 module _ {N X : Type 0} (L : Lent) (D : Doc N X) where
   -- a tax total without currencyID is BT-110; with one, the currencies read so far decide
@@ -84,17 +84,17 @@ module _ {N X : Type 0} (L : Lent) (D : Doc N X) where
   unfoldable pub summand : Sum → Currencies X → N → Summing X → N → Summing X
   summand required cur n s c = s
   summand allowance_total cur n s c =
-      let a = amount L.mode L.currency D (site Path.SummationAllowanceTotalAmount Term.Bt107) n (bytes "AllowanceTotalAmount") in
+      let a = amount L.mode L.currency D (site Path.SummationAllowanceTotalAmount (some Term.Bt107)) n (bytes "AllowanceTotalAmount") in
       record { allowance = a.0; charge = s.charge; vat = s.vat; vat_accounting = s.vat_accounting; rounded = s.rounded; paid = s.paid; says = s.says ++ a.1; strays = s.strays }
   summand charge_total cur n s c =
-      let a = amount L.mode L.currency D (site Path.SummationChargeTotalAmount Term.Bt108) n (bytes "ChargeTotalAmount") in
+      let a = amount L.mode L.currency D (site Path.SummationChargeTotalAmount (some Term.Bt108)) n (bytes "ChargeTotalAmount") in
       record { allowance = s.allowance; charge = a.0; vat = s.vat; vat_accounting = s.vat_accounting; rounded = s.rounded; paid = s.paid; says = s.says ++ a.1; strays = s.strays }
   summand tax_total cur n s c = tax_total_of cur s c
   summand rounding cur n s c =
-      let a = amount L.mode L.currency D (site Path.SummationRoundingAmount Term.Bt114) n (bytes "RoundingAmount") in
+      let a = amount L.mode L.currency D (site Path.SummationRoundingAmount (some Term.Bt114)) n (bytes "RoundingAmount") in
       record { allowance = s.allowance; charge = s.charge; vat = s.vat; vat_accounting = s.vat_accounting; rounded = a.0; paid = s.paid; says = s.says ++ a.1; strays = s.strays }
   summand prepaid cur n s c =
-      let a = amount L.mode L.currency D (site Path.SummationTotalPrepaidAmount Term.Bt113) n (bytes "TotalPrepaidAmount") in
+      let a = amount L.mode L.currency D (site Path.SummationTotalPrepaidAmount (some Term.Bt113)) n (bytes "TotalPrepaidAmount") in
       record { allowance = s.allowance; charge = s.charge; vat = s.vat; vat_accounting = s.vat_accounting; rounded = s.rounded; paid = a.0; says = s.says ++ a.1; strays = s.strays }
   summand unread cur n s c =
       record { allowance = s.allowance; charge = s.charge; vat = s.vat; vat_accounting = s.vat_accounting; rounded = s.rounded; paid = s.paid; says = s.says; strays = s.strays ++ (record { parent = Parent.MonetarySummation; name = D.name c } ∷ []) }
@@ -112,10 +112,10 @@ module _ {N X : Type 0} (L : Lent) (D : Doc N X) where
   unfoldable pub totals : Currencies X → N → Act X (Option Totals)
   totals cur n =
       let s = summed cur n in
-      let a = required_amount L D Rule.Br12 Path.SettlementSummation (site Path.SummationLineTotalAmount Term.Bt106) n (bytes "LineTotalAmount") in
-      let b = required_amount L D Rule.Br13 Path.SettlementSummation (site Path.SummationTaxBasisTotalAmount Term.Bt109) n (bytes "TaxBasisTotalAmount") in
-      let c = required_amount L D Rule.Br14 Path.SettlementSummation (site Path.SummationGrandTotalAmount Term.Bt112) n (bytes "GrandTotalAmount") in
-      let d = required_amount L D Rule.Br15 Path.SettlementSummation (site Path.SummationDuePayableAmount Term.Bt115) n (bytes "DuePayableAmount") in
+      let a = required_amount L D Rule.Br12 Path.SettlementSummation (site Path.SummationLineTotalAmount (some Term.Bt106)) n (bytes "LineTotalAmount") in
+      let b = required_amount L D Rule.Br13 Path.SettlementSummation (site Path.SummationTaxBasisTotalAmount (some Term.Bt109)) n (bytes "TaxBasisTotalAmount") in
+      let c = required_amount L D Rule.Br14 Path.SettlementSummation (site Path.SummationGrandTotalAmount (some Term.Bt112)) n (bytes "GrandTotalAmount") in
+      let d = required_amount L D Rule.Br15 Path.SettlementSummation (site Path.SummationDuePayableAmount (some Term.Bt115)) n (bytes "DuePayableAmount") in
       record {
         next =
             some

@@ -56,12 +56,12 @@ module _ {N X : Type 0} (D : Doc N X) where
   unfoldable pub fresh_code : VatState X → X → Answer ℕ → Says X (VatState X)
   fresh_code s x a = (
     record { count = s.count; point = s.point; code = a.value; first = some x },
-    maybe (entry Message.UnknownVatPointCode (site Path.TradeTaxDueDateTypeCode Term.Bt8) (some x) ∷ []) (λ c. []) a.value,
+    maybe (entry Message.UnknownVatPointCode (site Path.TradeTaxDueDateTypeCode (some Term.Bt8)) (some x) ∷ []) (λ c. []) a.value,
   )
 
   -- a further code
   unfoldable pub again_code : VatState X → X → X → Says X (VatState X)
-  again_code s x f = (s, cond (equal (D.bytes f) (D.bytes x)) [] (entry Message.SecondVatPointCode (site Path.SettlementTradeTaxDueDateTypeCode Term.Bt8) (some x) ∷ []))
+  again_code s x f = (s, cond (equal (D.bytes f) (D.bytes x)) [] (entry Message.SecondVatPointCode (site Path.SettlementTradeTaxDueDateTypeCode (some Term.Bt8)) (some x) ∷ []))
 
   -- no code, the first, or a further one
   unfoldable pub point_code : VatState X → N → Says X (VatState X)
@@ -69,7 +69,7 @@ module _ {N X : Type 0} (D : Doc N X) where
 
   -- indicator: true, 1, false or 0; bad means allowance (18), as absent does (19)
   unfoldable pub indicated : N → Answer Bool → Says X Bool
-  indicated i a = maybe (false, entry Message.IndicatorMalformed (site Path.AllowanceChargeIndicator Term.None) (some (own_text D 0 i)) ∷ []) (λ b. (b, [])) a.value
+  indicated i a = maybe (false, entry Message.IndicatorMalformed (site Path.AllowanceChargeIndicator none) (some (own_text D 0 i)) ∷ []) (λ b. (b, [])) a.value
 
   -- ChargeIndicator/Indicator
   unfoldable pub indicator : N → Option N
@@ -77,7 +77,7 @@ module _ {N X : Type 0} (D : Doc N X) where
 
   -- whether it is a charge
   unfoldable pub is_charge : N → Says X Bool
-  is_charge n = maybe (false, entry Message.IndicatorAbsent (site Path.AllowanceChargeIndicator Term.None) none ∷ []) (λ i. indicated i (boolean_of (D.bytes (own_text D 0 i)))) (indicator n)
+  is_charge n = maybe (false, entry Message.IndicatorAbsent (site Path.AllowanceChargeIndicator none) none ∷ []) (λ i. indicated i (boolean_of (D.bytes (own_text D 0 i)))) (indicator n)
 
 -- one allowance or charge more
 unfoldable pub counted : Bool → Counts → Counts
@@ -85,7 +85,7 @@ counted b s = record { allowances = cond b s.allowances (suc s.allowances); char
 
 -- message 20 alone
 unfoldable pub logistics_left : {X : Type 0} → Counts → Act X Counts
-logistics_left s = record { next = s; says = entry Message.LogisticsCharge (site Path.SettlementLogisticsCharge Term.None) none ∷ []; holds = []; strays = [] }
+logistics_left s = record { next = s; says = entry Message.LogisticsCharge (site Path.SettlementLogisticsCharge none) none ∷ []; holds = []; strays = [] }
 
 module _ {N X : Type 0} (L : Lent) (D : Doc N X) where
   -- VAT: point date, point code, taxable, tax, type code, category, rate

@@ -30,16 +30,16 @@ pub record Lent : Type 0 where
 -- where an entry is made: path, term, and the index of the term's group
 pub record Site : Type 0 where
   pub path : Path
-  pub term : Term
+  pub term : Option Term
   pub index : Option ℕ
 
 -- a site without a group
-abbrev pub site : Path → Term → Site
+abbrev pub site : Path → Option Term → Site
 site p t = record { path = p; term = t; index = none }
 
 -- a site in the group of an index
 abbrev pub grouped : Path → Term → ℕ → Site
-grouped p t g = record { path = p; term = t; index = some g }
+grouped p t g = record { path = p; term = some t; index = some g }
 
 -- an answer with what is to be said
 abbrev pub Says : Type 0 → Type 0 → Type 0
@@ -128,12 +128,12 @@ module _ {N X : Type 0} (mode : ℕ) (D : Doc N X) where
   unfoldable pub date_from : Path → N → Says X (Option ℕ)
   date_from p e =
       cond (maybe true (λ f. date_format (D.bytes f)) (D.attr e (bytes "format")))
-      (answered date_message (site p Term.None) e (parsed_date mode (text_bytes D e)))
-      (none, entry Message.DateFormat (site p Term.None) (some (own_text D mode e)) ∷ [])
+      (answered date_message (site p none) e (parsed_date mode (text_bytes D e)))
+      (none, entry Message.DateFormat (site p none) (some (own_text D mode e)) ∷ [])
 
   -- message 10 for the other spelling, and reading goes on
   unfoldable pub other_spelling : Path → N → Says X (Option ℕ)
-  other_spelling p e = ((date_from p e).0, entry Message.OtherDateElement (site p Term.None) (some (own_text D mode e)) ∷ (date_from p e).1)
+  other_spelling p e = ((date_from p e).0, entry Message.OtherDateElement (site p none) (some (own_text D mode e)) ∷ (date_from p e).1)
 
   -- DateTimeString, else DateString; which of them is the other spelling
   unfoldable pub date_in : Bool → Path → Path → N → Says X (Option ℕ)

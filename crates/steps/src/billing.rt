@@ -1,11 +1,11 @@
 // The children that say when and how is paid: billing period, payment terms, and payment means with its
 // transfers.
-ghost use Rattle.std.specs.Prelude.{List, ℕ, Option};
+ghost use Rattle.std.specs.Prelude.{List, Option, ℕ};
 ghost use Rattle.report.specs.declared.held.HeldRows.{HeldRows};
 ghost use Rattle.settlement.specs.Kinds.{period, payment_terms, payment_means};
 ghost use Rattle.settlement.specs.Values as reading;
 ghost use Rattle.element.specs.LinkDoc.{doc_of, lent_text};
-ghost use Rattle.values.specs.Sites.{lent_of};
+ghost use Rattle.values.specs.Sites.{lent_for};
 ghost use Rattle.kinds.specs.Kinds.{billing_is};
 ghost use Rattle.totals.specs.declared.state.Totals.{Totals};
 ghost use Rattle.unmapped.specs.declared.note.UnmappedRows.{UnmappedRows};
@@ -22,8 +22,8 @@ use unmapped::UnmappedRows;
 use values::{Entries, Lent};
 
 // BG-14: the billing period that element c is.
-fn period(doc: &Document, lent: Lent, entries: &mut Entries, billing: Billing, c: usize) -> Billing
-    ensures { (currency : List ℕ) (p : Plain) (t : Tally) (m : Option Totals) (h : HeldRows) (u : UnmappedRows) → Stepped period (lent_of lent currency) (doc_of doc.now) (lent_text doc.now) c (state p t billing m) (state p t result m) h h entries.old entries.new u u }
+fn period(doc: &Document, lent: &Lent, entries: &mut Entries, billing: Billing, c: usize) -> Billing
+    ensures { (currency : List ℕ) (p : Plain) (t : Tally) (m : Option Totals) (h : HeldRows) (u : UnmappedRows) → Stepped period (lent_for lent.now currency) (doc_of doc.now) (lent_text doc.now) c (state p t billing m) (state p t result m) h h entries.old entries.new u u }
 {
     let period = groups::period(doc, lent.mode, entries, c);
     Billing {
@@ -35,12 +35,12 @@ fn period(doc: &Document, lent: Lent, entries: &mut Entries, billing: Billing, c
 // BT-20, BT-9 and BT-89: the payment terms that element c is.
 fn payment_terms(
     doc: &Document,
-    lent: Lent,
+    lent: &Lent,
     entries: &mut Entries,
     billing: Billing,
     c: usize,
 ) -> Billing
-    ensures { (currency : List ℕ) (p : Plain) (t : Tally) (m : Option Totals) (h : HeldRows) (u : UnmappedRows) → Stepped payment_terms (lent_of lent currency) (doc_of doc.now) (lent_text doc.now) c (state p t billing m) (state p t result m) h h entries.old entries.new u u }
+    ensures { (currency : List ℕ) (p : Plain) (t : Tally) (m : Option Totals) (h : HeldRows) (u : UnmappedRows) → Stepped payment_terms (lent_for lent.now currency) (doc_of doc.now) (lent_text doc.now) c (state p t billing m) (state p t result m) h h entries.old entries.new u u }
 {
     let terms = groups::payment_terms(doc, lent.mode, entries, c);
     Billing { terms, ..billing }
@@ -64,7 +64,7 @@ fn payment(
 // What element c says of when or how is paid, by its kind.
 pub fn billing_child(
     doc: &Document,
-    lent: Lent,
+    lent: &Lent,
     held: &mut HeldRows,
     entries: &mut Entries,
     unmapped: &mut UnmappedRows,
@@ -72,7 +72,7 @@ pub fn billing_child(
     kind: BillingKind,
     c: usize,
 ) -> Billing
-    ensures { (currency : List ℕ) (p : Plain) (t : Tally) (m : Option Totals) → Stepped (billing_is kind) (lent_of lent currency) (doc_of doc.now) (lent_text doc.now) c (state p t billing m) (state p t result m) held.old held.new entries.old entries.new unmapped.old unmapped.new }
+    ensures { (currency : List ℕ) (p : Plain) (t : Tally) (m : Option Totals) → Stepped (billing_is kind) (lent_for lent.now currency) (doc_of doc.now) (lent_text doc.now) c (state p t billing m) (state p t result m) held.old held.new entries.old entries.new unmapped.old unmapped.new }
 {
     match kind {
         BillingKind::Period => period(doc, lent, entries, billing, c),

@@ -19,18 +19,17 @@ use values::{Entries, Lent};
 // BG-22: the totals that element c is, by BT-5 and BT-6 as read so far.
 pub fn summation(
     doc: &Document,
-    lent: Lent,
-    currency: &[u8],
+    lent: &Lent,
     entries: &mut Entries,
     unmapped: &mut UnmappedRows,
     plain: Plain,
     c: usize,
 ) -> Totals
-    ensures { (t : Tally) (b : Billing) (m : Option TotalsOf.Totals) (h : HeldRows) → Stepped summation (lent_of lent currency.now) (doc_of doc.now) (lent_text doc.now) c (state plain t b m) (state plain t b (Some result)) h h entries.old entries.new unmapped.old unmapped.new }
+    ensures { (t : Tally) (b : Billing) (m : Option TotalsOf.Totals) (h : HeldRows) → Stepped summation (lent_of lent.now) (doc_of doc.now) (lent_text doc.now) c (state plain t b m) (state plain t b (Some result)) h h entries.old entries.new unmapped.old unmapped.new }
 {
     let read = Currencies {
         bt5: plain.invoice_currency,
         bt6: plain.tax_currency,
     };
-    totals::totals(doc, lent, currency, entries, unmapped, read, c)
+    totals::totals(doc, lent, entries, unmapped, read, c)
 }

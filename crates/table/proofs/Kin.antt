@@ -8,12 +8,10 @@ use native.Mathlib.Omega.{arith}
 use native.Mathlib.Nat.{add-zero}
 use borrow.Author.Tests.{lt-ltb, eq-eqb, ltb-true, eqb-true}
 use lib.Dec.{ltb, eqb}
+use Rattle.text.specs.Options.{option_of}
 use Rattle.text.proofs.Bools.{both}
-use Rattle.table.proofs.Scans.{first_offends}
-use Rattle.std.specs.Option.{unwrap_or}
-use Rattle.std.specs.Prelude.{Some, None}
 use Rattle.std.specs.declared.option.Option as code
-use Rattle.table.specs.Table.{records, cell, kin, below, named, first_of, first_named, kin_named, first_from, found, found_at}
+use Rattle.table.specs.Table.{records, cell, kin, below, named, first_of, first_named, kin_named, first_from}
 
 module _ (t : List ℕ) (k : ℕ) where
   pub record Kin (i j : ℕ) : Type 0 where
@@ -71,15 +69,6 @@ module _ (t x : List ℕ) (k i : ℕ) (w : List ℕ) where
   first-named n e =
       ap (first_of (named t x w)) (ap (below t k i) {x = records t} {y = 0 + (n - 0)} (omega arith) ∙ below_from t k i 0 (n - 0)) ∙ first-from 0 (n - 0)
 
-  -- a record that passes is not record 0, so that its number stands for it
-  pub found_kin : (n : ℕ) → n ≡ records t → (r : code.Option ℕ) → found_at r ≡ first_from (kin_named t x k i w) 0 (n - 0) → found (unwrap_or r 0) ≡ first_named t x k i w
-  unfolding kin_named
-  found_kin n e r q = go r q ∙ q ∙ sym (first-named n e)
-    where
-      zero_not : kin_named t x k i w 0 ≡ true → ⊥
-      zero_not f = absurd (omega (arith, (kin_parts t k i 0 (both (kin t k i 0) (named t x w 0) f).0).earlier))
-
-      go : (r : code.Option ℕ) → found_at r ≡ first_from (kin_named t x k i w) 0 (n - 0) → found (unwrap_or r 0) ≡ found_at r
-      go None q = refl
-      go (Some (suc j)) q = refl
-      go (Some zero) q = absurd (zero_not (first_offends (kin_named t x k i w) (n - 0) 0 0 (sym q)).0)
+  -- the first record that passes is what `find` answers over all of them
+  pub find_kin : (n : ℕ) → n ≡ records t → (r : code.Option ℕ) → option_of r ≡ first_from (kin_named t x k i w) 0 (n - 0) → option_of r ≡ first_named t x k i w
+  find_kin n e r q = q ∙ sym (first-named n e)

@@ -20,7 +20,8 @@ use Rattle.std.specs.Option.{MatchOption, option_map}
 use Rattle.std.specs.Prelude.{Some, None}
 use Rattle.std.specs.declared.ops.Range.{Range}
 use Rattle.std.specs.declared.option.Option as code
-use Rattle.table.specs.Table.{first_from, found_at}
+use Rattle.text.specs.Options.{option_of}
+use Rattle.table.specs.Table.{first_from}
 
 -- the search from j on that is a whole search: a turn that goes on, one that finds, and the end
 module _ (p : ℕ → Bool) (n j : ℕ) (o : Option ℕ) (e : o ≡ first_from p j (n - j)) where
@@ -71,21 +72,21 @@ first_offends p (suc m) j r e = go (p j) refl e (first_offends p m (suc j) r)
     go false q f s = let u = s f in (u.0, λ k h h'. elim (ℕ_discrete k j) [ yes z ↦ rw z q | no z ↦ u.1 k (omega arith) h' ])
 
 -- the first of the numbers of a range is the first record
-pub find_range : (p : ℕ → Bool) (m j : ℕ) → found_at (find p (range_with_len j m)) ≡ first_from p j m
+pub find_range : (p : ℕ → Bool) (m j : ℕ) → option_of (find p (range_with_len j m)) ≡ first_from p j m
 unfolding first_from
 find_range p zero j = refl
 find_range p (suc m) j = go (p j) (find_range p m (suc j))
   where
-    go : (b : Bool) → found_at (find p (range_with_len (suc j) m)) ≡ first_from p (suc j) m → found_at (cond b (Some j) (find p (range_with_len (j + 1) m))) ≡ cond b (some j) (first_from p (suc j) m)
+    go : (b : Bool) → option_of (find p (range_with_len (suc j) m)) ≡ first_from p (suc j) m → option_of (cond b (Some j) (find p (range_with_len (j + 1) m))) ≡ cond b (some j) (first_from p (suc j) m)
     go true e = refl
     go false e = rw add-one e
 
 -- what `find` answers over a range
 pub first_in_range : {F : Type 0} {g : Mut F (Bor ℕ × Unit {0}) Bool} (p : ℕ → Bool) (s u : Range ℕ) (f : F) (r : code.Option ℕ) →
     (xs : List ℕ) × (j : F) × YieldsThen nat_range_steps s xs r u × FoldsTo (λ p x q. CalledAt g p x false q) f xs j × MatchOption r ⊤ (λ x. (h : F) × CalledAt g j x true h) →
-    ((x : ℕ) (b : Bool) (q : F) → CalledAt g f x b q → (q ≡ f) × (b ≡ p x)) → found_at r ≡ first_from p s.start (s.end - s.start)
+    ((x : ℕ) (b : Bool) (q : F) → CalledAt g f x b q → (q ≡ f) × (b ≡ p x)) → option_of r ≡ first_from p s.start (s.end - s.start)
 first_in_range p s u f r e h =
-    ap found_at (same r ∙ find_from_yields_List p u f r e (YieldsList-from_range s.start s.end (s.end - s.start) refl refl) h) ∙ find_range p (s.end - s.start) s.start
+    ap option_of (same r ∙ find_from_yields_List p u f r e (YieldsList-from_range s.start s.end (s.end - s.start) refl refl) h) ∙ find_range p (s.end - s.start) s.start
   where
     same : (r : code.Option ℕ) → r ≡ option_map (λ (x : ℕ). x) r
     same (Some x) = refl

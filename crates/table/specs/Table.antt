@@ -1,6 +1,5 @@
 -- The table: records of six numbers, no header, and the tree that they describe (document 01, "From the tree to the table").
-use Rattle.std.specs.Prelude.{Bool, cond, ◌&&◌, List, [], ◌∷◌, ◌++◌, ℕ, zero, suc, ◌+◌, ◌*◌, ◌/◌, ltb, eqb, length, get_or, Some, None}
-use Rattle.std.specs.declared.option.Option as code
+use Rattle.std.specs.Prelude.{Bool, cond, ◌&&◌, List, [], ◌∷◌, ◌++◌, ℕ, zero, suc, ◌+◌, ◌*◌, ◌/◌, ltb, eqb, length, get_or}
 use Rattle.std.proofs.Math.Option.{Option, none, some}
 use Rattle.text.specs.Span.{clipped}
 use Rattle.text.specs.Order.{equal}
@@ -63,11 +62,6 @@ first_child t x i w = first_named t x 1 i w
 -- the attribute of a name
 unfoldable pub attribute : List ℕ → List ℕ → ℕ → List ℕ → Option ℕ
 attribute t x i w = first_named t x 2 i w
-
--- the record that an answer names, if it names one
-abbrev pub found_at : code.Option ℕ → Option ℕ
-found_at (Some j) = some j
-found_at None = none
 
 -- a record's number stands for it, and 0, which is under no record, for none
 abbrev pub found : ℕ → Option ℕ

@@ -7,5 +7,7 @@
 #![tactic(auto)]
 
 mod record;
+mod table;
 
-pub use record::{Field, count, field_at, field_of, find, is_named, joined_text, name};
+pub use record::Field;
+pub use table::Table;

@@ -3,7 +3,7 @@
 use links::Siblings;
 use refusals::Refusal;
 use std::io;
-use table::Field;
+use table::{Field, Table};
 
 const SHOWN: usize = 64;
 
@@ -11,7 +11,7 @@ fn print_verdict(rt: &impl Print, verdict: Result<(), Refusal>) -> io::Result<()
     match verdict {
         Ok(()) => rt.print("accepted"),
         Err(refusal) => {
-            let n = refusal.reason.number();
+            let n = u32::from(refusal.reason);
             let r = refusal.record;
             print!(rt; "refused {n} {r}")
         }
@@ -39,55 +39,40 @@ fn print_links(rt: &impl Print, n: usize, links: &[u16]) -> io::Result<()> {
     Ok(())
 }
 
-// An exclamation mark where the links find another record.
-fn print_other(rt: &impl Print, found: usize, linked: usize) -> io::Result<()> {
+// The first record of the kind and name of record j under its parent, by looking at all records, and an
+// exclamation mark where the links find another.
+fn print_found(rt: &impl Print, table: &Table, j: usize, links: &[u16]) -> io::Result<()> {
+    let kind = table.field_of(j, Field::Kind);
+    let parent = table.field_at(j, Field::Parent);
+    let name = table.name(j);
+    let found = table.find(kind, parent, name);
+    let k = found.unwrap_or(0);
+    print!(rt; " {j}={k}")?;
+    let linked = match kind {
+        1 => links::first_child(table, links, parent, name),
+        2 => links::attribute(table, links, parent, name),
+        _ => return Ok(()),
+    };
     if found != linked {
         rt.print("!")?;
     }
     Ok(())
 }
 
-// The first record of the kind and name of record j under its parent, by looking at all records, and
-// a mark where the links find another.
-fn print_found(
-    rt: &impl Print,
-    table: &[u32],
-    text: &[u8],
-    j: usize,
-    links: &[u16],
-) -> io::Result<()> {
-    let kind = table::field_of(table, j, Field::Kind);
-    let parent = table::field_at(table, j, Field::Parent);
-    let name = table::name(table, text, j);
-    let k = table::find(table, text, kind, parent, name);
-    print!(rt; " {j}={k}")?;
-    match kind {
-        1 => print_other(rt, k, links::first_child(table, text, links, parent, name)),
-        2 => print_other(rt, k, links::attribute(table, text, links, parent, name)),
-        _ => Ok(()),
-    }
-}
-
 // The same for each later record of the first n.
-fn print_lookups(
-    rt: &impl Print,
-    table: &[u32],
-    text: &[u8],
-    n: usize,
-    links: &[u16],
-) -> io::Result<()> {
+fn print_lookups(rt: &impl Print, table: &Table, n: usize, links: &[u16]) -> io::Result<()> {
     for j in 1..n {
-        print_found(rt, table, text, j, links)?;
+        print_found(rt, table, j, links)?;
     }
     Ok(())
 }
 
 // The answer for a table and its text.
-pub(crate) fn print_answer(rt: &impl Print, table: &[u32], text: &[u8]) -> io::Result<()> {
-    print_verdict(rt, refusals::check(table, text))?;
+pub(crate) fn print_answer(rt: &impl Print, table: &Table) -> io::Result<()> {
+    print_verdict(rt, refusals::check(table))?;
     let mut links = [0u16; 12288];
     links::link(table, &mut links);
-    let n = table::count(table).min(SHOWN);
+    let n = table.count().min(SHOWN);
     print_links(rt, n, &links)?;
-    print_lookups(rt, table, text, n, &links)
+    print_lookups(rt, table, n, &links)
 }

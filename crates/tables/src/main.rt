@@ -3,8 +3,8 @@
 //
 // A case is a table's numbers and, after ` :`, its text, or `zeros N M`, a table of N zeros and a
 // text of M zero bytes. The answer is the verdict, the children (`>`) and attributes (`@`) of each
-// record by its links, and for each later record the first of its kind and name under its parent.
-// Of long tables the first 64 records are shown. tools/tables.py writes cases and answers.
+// record by its links, and for each later record the first of its kind and name under its parent, 0
+// for none. Of long tables the first 64 records are shown. tools/tables.py writes cases and answers.
 #![tactic(auto)]
 
 mod answer;
@@ -13,6 +13,7 @@ use crate::answer::print_answer;
 use cases::find;
 use std::io;
 use std::io::{BufRead, BufReader};
+use table::Table;
 
 // The most zeros and zero bytes of a case.
 const ZEROS: usize = 24600;
@@ -26,7 +27,11 @@ fn print_zeros(rt: &(impl Print + AllocGlobal), n: usize, m: usize) -> io::Resul
     }
     let zeros = vec![in rt.alloc(); 0u32; n]?;
     let blank = vec![in rt.alloc(); 0u8; m]?;
-    print_answer(rt, &zeros, &blank)
+    let table = Table {
+        records: &zeros,
+        text: &blank,
+    };
+    print_answer(rt, &table)
 }
 
 // The two numbers of a line `zeros N M`.
@@ -49,7 +54,11 @@ fn print_table(
     let n = cases::numbers(numbers, table);
     let m = cases::fill(escaped, 0, text);
     if n <= table.len() {
-        return print_answer(rt, &table[..n], text::part(text, 0, m));
+        let table = Table {
+            records: &table[..n],
+            text: text::part(text, 0, m),
+        };
+        return print_answer(rt, &table);
     }
     rt.print("unfit")
 }

@@ -1,6 +1,6 @@
 -- The end of a reading in the code's terms.
 use Rattle.std.specs.Prelude.{◌≡◌, Bool, cond, not, ◌||◌, List, ◌++◌, ℕ}
-use Rattle.std.proofs.Math.Option.{Option, none}
+use Rattle.std.proofs.Math.Option.{Option, none, some}
 use Rattle.codes.specs.declared.rules.Rule.TheVariants as Rule
 use Rattle.names.specs.declared.path.Path.TheVariants as Path
 use Rattle.names.specs.declared.term.Term.TheVariants as Term
@@ -20,9 +20,9 @@ use Rattle.terms.specs.declared.terms.Terms as CodeTerms
 -- no summation: four absences
 unfoldable pub missing_totals : ℕ → List (Entry Place)
 missing_totals rules =
-    missing rules Rule.Br12 (site Path.SettlementSummation Term.Bt106) ++
-    (missing rules Rule.Br13 (site Path.SettlementSummation Term.Bt109) ++
-    (missing rules Rule.Br14 (site Path.SettlementSummation Term.Bt112) ++ missing rules Rule.Br15 (site Path.SettlementSummation Term.Bt115)))
+    missing rules Rule.Br12 (site Path.SettlementSummation (some Term.Bt106)) ++
+    (missing rules Rule.Br13 (site Path.SettlementSummation (some Term.Bt109)) ++
+    (missing rules Rule.Br14 (site Path.SettlementSummation (some Term.Bt112)) ++ missing rules Rule.Br15 (site Path.SettlementSummation (some Term.Bt115))))
 
 -- the means that a mandate or a creditor identifier makes where none are held
 abbrev pub fresh_means : Option Place → Option Place → Means Place

@@ -1,7 +1,6 @@
 // What becomes of mandate and creditor identifier at the end of a reading.
 ghost use Rattle.std.specs.Prelude.{◌≡◌, [], ◌∷◌};
 ghost use Rattle.std.proofs.Math.Option.{none};
-ghost use Rattle.names.specs.declared.term.Term.TheVariants as Term;
 ghost use Rattle.report.specs.Values.{text_of};
 ghost use Rattle.settlement.specs.Document.{maybe};
 ghost use Rattle.settlement.specs.Settlement as reading;
@@ -10,7 +9,7 @@ ghost use Rattle.values.specs.Told.{Said};
 ghost use Rattle.payment.specs.Walks.{means_of};
 ghost use Rattle.terms.specs.Endings.{fresh_means, Debited};
 
-use names::{Message, Path, Term};
+use names::{Message, Path};
 use payment::Means;
 use report::Place;
 use values::Entries;
@@ -25,11 +24,11 @@ pub(crate) struct Debit {
 
 // Says that a text is lost, if it is there.
 fn say_lost(entries: &mut Entries, message: Message, path: Path, lost: Option<Place>)
-    ensures { Said (maybe [] (λ p. entry message (site path Term.None) none ∷ []) (text_of lost)) entries.old entries.new }
+    ensures { Said (maybe [] (λ p. entry message (site path none) none ∷ []) (text_of lost)) entries.old entries.new }
 {
     match lost {
         None => {}
-        Some(_) => entries.say(message, values::site(path, Term::None), None),
+        Some(_) => entries.say(message, values::site(path, None), None),
     }
 }
 
@@ -63,7 +62,8 @@ fn debit_of(mandate: Option<Place>, creditor: Option<Place>) -> Means
     Means::Debit(None)
 }
 
-// What becomes of the means, the mandate and the creditor identifier.
+// What becomes of the means, the mandate and the creditor identifier: the state has them apart, so that they
+// come in as three and go out as one.
 pub(crate) fn debited(
     entries: &mut Entries,
     means: Means,

@@ -24,10 +24,10 @@ fn missing_totals(entries: &mut Entries, rules: u32)
     ensures { Said (missing_totals rules) entries.old entries.new }
 {
     let path = Path::SettlementSummation;
-    entries.missing(rules, Rule::Br12, values::site(path, Term::Bt106));
-    entries.missing(rules, Rule::Br13, values::site(path, Term::Bt109));
-    entries.missing(rules, Rule::Br14, values::site(path, Term::Bt112));
-    entries.missing(rules, Rule::Br15, values::site(path, Term::Bt115));
+    entries.missing(rules, Rule::Br12, values::site(path, Some(Term::Bt106)));
+    entries.missing(rules, Rule::Br13, values::site(path, Some(Term::Bt109)));
+    entries.missing(rules, Rule::Br14, values::site(path, Some(Term::Bt112)));
+    entries.missing(rules, Rule::Br15, values::site(path, Some(Term::Bt115)));
 }
 
 // Says what is missing where there was no summation.

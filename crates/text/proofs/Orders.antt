@@ -2,12 +2,12 @@
 use mathlib.Core.Path.{◌≡◌, refl, sym, ◌∙◌, ap}
 use mathlib.Core.Bool.{Bool, true, false}
 use mathlib.Core.List.{List, [], ◌∷◌}
-use Prim.Native.Nat.{Ordering, ℕ, ◌<◌}
+use Prim.Native.Nat.{Ordering, ℕ, ◌≤◌, ◌<◌}
 use native.Mathlib.Omega.{arith}
 use native.Mathlib.Decide.{dec_lt}
 use borrow.Author.Tests.{lt-ltb, le-ltb, eqb-true, eq-eqb, ne_eqb}
 use lib.Dec.{eqb}
-use lib.ListN.{length}
+use lib.ListN.{length, drop, drop_of_length-le}
 use Rattle.std.specs.declared.cmp.Ordering as Code
 use Rattle.std.specs.Cmp.Lexicographic.{pointwise, slice_cmp}
 use Rattle.std.specs.Ordering.{nat_cmp, ordering_then}
@@ -149,3 +149,9 @@ slices (x ∷ s) (y ∷ t) = go (heads x y) (slices s t)
 
 pub order_slices : (s t : List ℕ) (o : Code.Ordering) → o ≡ slice_cmp nat_cmp s t → ordering o ≡ order s t
 order_slices s t o e = ap ordering e ∙ slices s t
+
+-- two texts that are alike up to i, where both end there
+module _ (s t : List ℕ) (i : ℕ) (e : order s t ≡ order (drop i s) (drop i t)) where
+  pub order_end : i ≤ length t → length s ≤ i → length t ≤ length s → Ordering.eq ≡ order s t
+  unfolding order
+  order_end b h l = sym (e ∙ rw (drop_of_length-le s h, drop_of_length-le t {i = i} (omega arith)))

@@ -1,70 +1,53 @@
--- Laws of a name's place among names: the turns of the loop that finds it, that it tells names apart, and what a name stands for by its place.
+-- Laws of a name's place among names: that `position` finds it, that it tells names apart, and what a name stands for by its place.
 use mathlib.Core.Path.{◌≡◌, refl, sym, ap, ◌∙◌}
-use mathlib.Core.Bool.{Bool, true, false, cond}
+use mathlib.Core.Bool.{Bool, true, false, cond, not}
 use mathlib.Core.List.{List, [], ◌∷◌, map}
-use Prim.Native.Nat.{ℕ, zero, suc, ◌+◌, ◌-◌, ◌≤◌, ◌<◌}
+use Prim.Native.Nat.{ℕ, zero, suc, ◌+◌, ◌≤◌, ◌<◌}
 use Prim.Native.String.{String}
 use native.Mathlib.Omega.{arith}
-use native.Mathlib.Numerals.{add-one}
-use native.Mathlib.Nat.{add-zero}
-use borrow.Author.Tests.{eq-eqb, eqb-true}
-use lib.Dec.{eqb}
-use lib.ListN.{length, get_or, take, drop, length-drop, length-map, drop_of_length-le, get_or-eq_default}
-use lib.Seq.{drop-cons, drop-drop}
+use borrow.Author.Tests.{eq-eqb, eqb-true, ltb-false}
+use lib.Dec.{eqb, ltb}
+use lib.ListN.{length, get_or, length-map, get_or-eq_default}
 use denote.Ref.{Bor}
-use Rattle.std.specs.Prelude.{find, Option, Some}
+use Rattle.std.specs.List.{position_or_len}
+use Rattle.std.specs.Prelude.{find, position, Option, Some, None}
 use Rattle.std.specs.Option.{unwrap_or, option_map}
 use Rattle.text.specs.Order.{equal}
-use Rattle.text.specs.Span.{clipped}
-use Rattle.text.specs.Place.{names_in, all_names, place, meaning, meant}
+use Rattle.text.specs.Place.{place, meaning, meant}
 use Rattle.text.specs.Utf8.{bytes}
 use Rattle.text.proofs.Bools.{not_both}
 use Rattle.text.proofs.Orders.{equal_is, equal_refl}
 
--- more steps than there are bytes find no more names
-names_enough : (f g : ℕ) (w : List ℕ) → length w ≤ f → length w ≤ g → names_in f w ≡ names_in g w
-unfolding names_in
-names_enough zero zero [] h k = refl
-names_enough zero (suc g) [] h k = refl
-names_enough (suc f) zero [] h k = refl
-names_enough (suc f) (suc g) [] h k = refl
-names_enough zero g (n ∷ w) h k = absurd (omega arith)
-names_enough (suc f) zero (n ∷ w) h k = absurd (omega arith)
-names_enough (suc f) (suc g) (n ∷ w) h k =
-    ap (λ (r : List (List ℕ)). take n w ∷ r) (names_enough f g (drop n w) (rw length-drop (omega arith)) (rw length-drop (omega arith)))
-
-all_cons : (n : ℕ) (w : List ℕ) → all_names (n ∷ w) ≡ take n w ∷ all_names (drop n w)
-unfolding all_names names_in
-all_cons n w = ap (λ (r : List (List ℕ)). take n w ∷ r) (names_enough (length w) (length (drop n w)) (drop n w) (rw length-drop (omega arith)) (omega arith))
-
--- the loop over names, at a place with k names before it
-module _ (w s : List ℕ) (k at : ℕ) (h : at < length w) (e : place (all_names w) s ≡ k + place (all_names (drop at w)) s) where
-  abbrev this : List ℕ
-  this = take (get_or w at 0) (drop (at + 1) w)
-
-  place_cons : place (all_names w) s ≡ k + cond (equal s this) 0 (suc (place (all_names (drop (get_or w at 0) (drop (at + 1) w))) s))
+-- where a name stands among names that are lent, as `position` finds it
+module _ (s : List ℕ) where
+  position_len : (ns : List (Bor (List ℕ))) → position_or_len (λ w. equal s w.now) ns ≡ place (map (λ w. w.now) ns) s
   unfolding place
-  place_cons = e ∙ rw (drop-cons w at 0 h, all_cons (get_or w at 0) (drop (suc at) w), add-one at)
+  position_len [] = refl
+  position_len (w ∷ ns) = go (equal s w.now) (position_len ns)
+    where
+      go : (b : Bool) → position_or_len (λ w. equal s w.now) ns ≡ place (map (λ w. w.now) ns) s → cond (not b) (1 + position_or_len (λ w. equal s w.now) ns) 0 ≡ cond b 0 (suc (place (map (λ w. w.now) ns) s))
+      go true e = refl
+      go false e = rw e (omega arith)
 
-  -- the next name was cut out, and compared
-  module _ (n : ℕ) (p : n ≡ get_or w at 0) (v : List ℕ) (q : v ≡ clipped w (at + 1) n) (b : Bool) (r : b ≡ equal s v) where
-    this_is : v ≡ this
-    unfolding clipped
-    this_is = q ∙ rw p
+  place_within : (ws : List (List ℕ)) → place ws s ≤ length ws
+  unfolding place
+  place_within [] = omega arith
+  place_within (w ∷ ws) = go (equal s w) (place_within ws)
+    where
+      go : (b : Bool) → place ws s ≤ length ws → cond b 0 (suc (place ws s)) ≤ suc (length ws)
+      go true h = omega arith
+      go false h = omega (arith, h)
 
-    pub place_here : b ≡ true → k ≡ place (all_names w) s
-    place_here f = sym (place_cons ∙ rw (← this_is, ← r, f) (add-zero k))
+  -- and their number where it does not
+  pub position_is : (ns : List (Bor (List ℕ))) {o : Option ℕ} {k : ℕ} → o ≡ position (λ w. equal s w.now) ns → k ≡ unwrap_or o (length ns) → k ≡ place (map (λ w. w.now) ns) s
+  position_is ns {o} {k} e f = f ∙ rw (e, position_len ns) (go (ltb (place (map (λ w. w.now) ns) s) (length ns)) refl)
+    where
+      within : place (map (λ w. w.now) ns) s ≤ length ns
+      within = rw (length-map) at (place_within (map (λ w. w.now) ns))
 
-    pub place_on : b ≡ false → place (all_names w) s ≡ (k + 1) + place (all_names (drop (at + 1 + n) w)) s
-    place_on f = place_cons ∙ rw (← this_is, ← r, f, ← p, drop-drop) (omega arith)
-
-    pub place_last : b ≡ false → length w - (at + 1) < n → k + 1 ≡ place (all_names w) s
-    unfolding all_names names_in place
-    place_last f g = sym (place_on f ∙ rw (drop_of_length-le w {i = at + 1 + n} (omega arith)) (omega arith))
-
-pub place_end : (w s : List ℕ) (k at : ℕ) → length w ≤ at → place (all_names w) s ≡ k + place (all_names (drop at w)) s → k ≡ place (all_names w) s
-unfolding all_names names_in place
-place_end w s k at h e = sym (e ∙ rw (drop_of_length-le w h) (add-zero k))
+      go : (b : Bool) → ltb (place (map (λ w. w.now) ns) s) (length ns) ≡ b → unwrap_or (cond b (Some (place (map (λ w. w.now) ns) s)) None) (length ns) ≡ place (map (λ w. w.now) ns) s
+      go true q = refl
+      go false q = let n = ltb-false _ _ q in omega (arith, within, n)
 
 -- two names at one place are the same
 same_place : (ws : List (List ℕ)) (s v : List ℕ) → place ws s ≡ place ws v → place ws s < length ws → s ≡ v

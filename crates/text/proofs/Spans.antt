@@ -56,3 +56,10 @@ module _ (s : List ℕ) (start len : ℕ) where
               let z : len ≡ 0 = omega (arith, clipped_length) in
               e ∙ rw (lt-leb (start + len) (length s) (omega arith), z)
         ]
+
+-- a part to the end, where it is no longer
+pub clip_long : (s : List ℕ) (start len : ℕ) → length s - start ≤ len → take (length s - start) (drop start s) ≡ clipped s start len
+unfolding clipped
+clip_long s start len h =
+    let l = length-drop start s in
+    take_all (length s - start) (drop start s) (omega (arith, l)) ∙ sym (take_all len (drop start s) (omega (arith, l)))

@@ -1,20 +1,10 @@
--- Names in a row, each after its length, where a name stands among them, and what it stands for.
-use Rattle.std.specs.Prelude.{cond, List, [], ◌∷◌, ℕ, zero, suc, length, take, drop, find, Option}
+-- Where a name stands among names, and what it stands for.
+use Rattle.std.specs.Prelude.{cond, List, [], ◌∷◌, ℕ, suc, find, Option}
 use Rattle.std.specs.Option.{option_map}
 use denote.Ref.{Bor}
 use Prim.Native.String.{String}
 use Rattle.text.specs.Order.{equal}
 use Rattle.text.specs.Utf8.{bytes}
-
--- the names in a row: at most f of them
-unfoldable pub names_in : ℕ → List ℕ → List (List ℕ)
-names_in zero w = []
-names_in (suc f) [] = []
-names_in (suc f) (n ∷ w) = take n w ∷ names_in f (drop n w)
-
--- all of them
-unfoldable pub all_names : List ℕ → List (List ℕ)
-all_names w = names_in (length w) w
 
 -- where a name stands among names, and their number where it does not
 unfoldable pub place : List (List ℕ) → List ℕ → ℕ

@@ -14,7 +14,7 @@ mod word;
 
 pub use digit::{is_digit, numeral_of};
 pub use order::{compare, same};
-pub use place::{meaning_of, place_of, position_of};
+pub use place::{meaning_of, position_of};
 pub use range::is_within;
 pub use span::{Span, clip, part};
 pub use word::same_words;

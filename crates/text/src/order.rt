@@ -4,7 +4,7 @@ ghost use Rattle.text.specs.Order.{equal, order, ordering};
 
 use std::cmp::Ordering;
 
-// Whether a and b are the same bytes.
+// Whether a and b are the same bytes: the library's `==`, with the definitions' word for it.
 #[tactic(auto, using(crate::proofs::Orders::equal_pointwise))]
 pub fn same(a: &[u8], b: &[u8]) -> bool
     ensures { result ≡ equal a.now b.now }

@@ -1,32 +1,9 @@
 // A name looked up among names.
 ghost use Rattle.std.specs.Prelude.{◌≡◌, position};
 ghost use Rattle.text.specs.Order.{equal};
-ghost use Rattle.text.specs.Place.{all_names, place, meaning};
+ghost use Rattle.text.specs.Place.{meaning};
 
-use crate::span::clip;
 use crate::word::same_words;
-
-// Where a name stands among names in a row, each after its length, and their number where it does not.
-pub fn place_of(names: &[u8], name: &[u8]) -> usize
-    ensures { result ≡ place (all_names names.now) name.now }
-{
-    let mut k = 0;
-    let mut at = 0;
-    while at < names.len() {
-        let len = names[at] as usize;
-        let from = at + 1;
-        if same_words(name, clip(names, from, len)) {
-            return k;
-        }
-        k += 1;
-        let room = names.len() - from;
-        if room < len {
-            return k;
-        }
-        at = from + len;
-    }
-    k
-}
 
 // Where a name stands among names.
 pub fn position_of(names: &[&[u8]], name: &[u8]) -> Option<usize>

@@ -2,7 +2,7 @@
 use mathlib.Core.Path.{◌≡◌, refl, ◌∙◌}
 use mathlib.Core.Bool.{Bool, true, false}
 use mathlib.Core.List.{List, [], ◌∷◌, foldl}
-use mathlib.Core.Option.{Option, none}
+use mathlib.Core.Option.{Option, none, some}
 use Prim.Native.Nat.{ℕ}
 use Prim.Native.String.{String}
 use lib.IntN.{ℤ}
@@ -25,7 +25,7 @@ use Rattle.totals.proofs.Steps.{tax_beside}
 module _ (L : Lent) (D : Doc ℕ Place) (n : ℕ) where
   -- what the first child of a name says is an amount, unless a child of the name is still to come
   abbrev Due : Path → Term → String → List ℕ → Option ℤ → Type 0
-  Due p t w cs v = first D (bytes w) cs ≡ none → v ≡ (amount L.mode L.currency D (site p t) n (bytes w)).0
+  Due p t w cs v = first D (bytes w) cs ≡ none → v ≡ (amount L.mode L.currency D (site p (some t)) n (bytes w)).0
 
   -- so of each optional amount
   pub record Dues (cs : List ℕ) (m : Summing Place) : Type 0 where
@@ -77,6 +77,6 @@ module _ (L : Lent) (D : Doc ℕ Place) (cur : Currencies Place) (n : ℕ) where
   dues_summed = dues_all (D.kids n) (taxing (none, none)) dues_start
 
 -- what was heard of a child that was looked for by a name
-pub kid_heard : (mode : ℕ) (currency : List ℕ) (D : Doc ℕ Place) (n : ℕ) (w : List ℕ) {o : Option ℕ} {v : Says Place (Option ℤ)} {y s : Site} → y ≡ s → o ≡ kid D n w → v ≡ amount_found mode currency D y o → v ≡ amount mode currency D s n w
+pub kid_heard : (L : Lent) (D : Doc ℕ Place) (n : ℕ) (w : List ℕ) {o : Option ℕ} {v : Says Place (Option ℤ)} {y s : Site} → y ≡ s → o ≡ kid D n w → v ≡ amount_found L D y o → v ≡ amount L.mode L.currency D s n w
 unfolding amount_found amount
-kid_heard mode currency D n w p q h = h ∙ rw (p, q)
+kid_heard L D n w p q h = h ∙ rw (p, q)

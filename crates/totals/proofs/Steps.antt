@@ -17,10 +17,10 @@ use Rattle.settlement.specs.Summation as Def
 use Rattle.settlement.specs.Values.{Lent, attribute}
 use Rattle.values.specs.Told.{Said, Told}
 use Rattle.values.specs.declared.saying.Entries.{Entries}
-use Rattle.values.proofs.Telling.{said_none}
+use Rattle.values.proofs.Telling.{said_none, said_then}
 use Rattle.unmapped.specs.Acted.{Notes, Acted}
 use Rattle.unmapped.specs.declared.note.UnmappedRows.{UnmappedRows}
-use Rattle.unmapped.proofs.Notings.{notes_none}
+use Rattle.unmapped.proofs.Notings.{notes_none, notes_then}
 use Rattle.totals.specs.State.{sum_is}
 use Rattle.totals.specs.Reading.{taxes, taxing, taxed, made, said_by, first_of, Hears}
 use Rattle.totals.specs.declared.firsts.Firsts.{Firsts}
@@ -33,7 +33,7 @@ abbrev pub beside : Summing Place → Summing Place → Summing Place
 beside m t = with_vat t.vat t.vat_accounting t.says m
 
 -- what a child made of a state, r, is what it made of that state's BT-110 and BT-111 alone, t, behind what the state had
-pub record Behind (m t r : Summing Place) : Type 0 where
+record Behind (m t r : Summing Place) : Type 0 where
   pub taxes : taxes r ≡ taxes t
   pub says : r.says ≡ m.says ++ t.says
   pub strays : r.strays ≡ m.strays ++ t.strays
@@ -77,31 +77,49 @@ module _ (L : Lent) (D : Doc ℕ Place) (cur : Currencies Place) where
     behind_of prepaid = record { taxes = refl; says = refl; strays = sym (append-nil m.strays) }
     behind_of Def.unread = record { taxes = refl; says = sym (append-nil m.says); strays = refl }
 
-    pub behind : Behind m (summing L D cur n (taxing (taxes m)) c) (summing L D cur n m c)
+    behind : Behind m (summing L D cur n (taxing (taxes m)) c) (summing L D cur n m c)
     unfolding summing
     behind = behind_of (sum_of D c)
 
--- one child of a summation, beside BT-110 and BT-111 as read before it
-module _ (L : Lent) (D : Doc ℕ Place) (cur : Currencies Place) (n c : ℕ) (p : Option ℤ × Option ℤ) (x : List ℕ) (h : HeldRows) (e : Entries) (u : UnmappedRows) {j : Code.Sum} (k : sum_is j ≡ sum_of D c) where
+-- BT-110 and BT-111 before any child, with which nothing is said or noted
+pub acted_start : (p : Option ℤ × Option ℤ) (x : List ℕ) (h : HeldRows) (e : Entries) (u : UnmappedRows) → Acted (made taxes (taxing p)) x p h h e e u u
+acted_start p x h e u = record { same = refl; held = holds_none h; said = said_none e; noted = notes_none x u }
+
+-- one child of a summation, after those before it made m
+module _ (L : Lent) (D : Doc ℕ Place) (cur : Currencies Place) (n c : ℕ) (m : Summing Place) {p : Option ℤ × Option ℤ} {x : List ℕ} {h : HeldRows} {e₀ e : Entries} {u₀ u : UnmappedRows} (a : Acted (made taxes m) x p h h e₀ e u₀ u) where
   -- one that is read after all others
-  pub required_step : j ≡ Kind.Required → Acted (made taxes (summing L D cur n (taxing p) c)) x p h h e e u u
+  pub required_step : {j : Code.Sum} → j ≡ Kind.Required → sum_is j ≡ sum_of D c → Acted (made taxes (summing L D cur n m c)) x p h h e₀ e u₀ u
   unfolding summing summand
-  required_step q = rw (← k, q) (record { same = refl; held = holds_none h; said = said_none e; noted = notes_none x u })
+  required_step q k = rw (← k, q) a
 
   -- an optional amount
-  pub optional_step : {f : Firsts} (q : Optional) {e' : Entries} → j ≡ Kind.Optional q → Hears L.mode L.currency D n f → Said (said_by (first_of f q)).1 e e' → Acted (made taxes (summing L D cur n (taxing p) c)) x p h h e e' u u
+  pub optional_step : {f : Firsts} (q : Optional) {j : Code.Sum} {e' : Entries} → j ≡ Kind.Optional q → sum_is j ≡ sum_of D c → Hears L D n f → Said (said_by (first_of f q)).1 e e' → Acted (made taxes (summing L D cur n m c)) x p h h e₀ e' u₀ u
   unfolding summing summand
-  optional_step Optional.AllowanceTotal q w s = rw (← k, q, ← w.allowance) (record { same = refl; held = holds_none h; said = s; noted = notes_none x u })
-  optional_step Optional.ChargeTotal q w s = rw (← k, q, ← w.charge) (record { same = refl; held = holds_none h; said = s; noted = notes_none x u })
-  optional_step Optional.Rounding q w s = rw (← k, q, ← w.rounding) (record { same = refl; held = holds_none h; said = s; noted = notes_none x u })
-  optional_step Optional.Prepaid q w s = rw (← k, q, ← w.paid) (record { same = refl; held = holds_none h; said = s; noted = notes_none x u })
+  optional_step Optional.AllowanceTotal q k w s = rw (← k, q, ← w.allowance) (record { same = a.same; held = a.held; said = said_then a.said s; noted = a.noted })
+  optional_step Optional.ChargeTotal q k w s = rw (← k, q, ← w.charge) (record { same = a.same; held = a.held; said = said_then a.said s; noted = a.noted })
+  optional_step Optional.Rounding q k w s = rw (← k, q, ← w.rounding) (record { same = a.same; held = a.held; said = said_then a.said s; noted = a.noted })
+  optional_step Optional.Prepaid q k w s = rw (← k, q, ← w.paid) (record { same = a.same; held = a.held; said = said_then a.said s; noted = a.noted })
 
   -- a tax total
-  pub tax_step : {p' : Option ℤ × Option ℤ} {e' : Entries} → j ≡ Kind.TaxTotal → Told (taxed (tax_total_of L D cur (taxing p) c)) e p' e' → Acted (made taxes (summing L D cur n (taxing p) c)) x p' h h e e' u u
-  unfolding summing summand
-  tax_step q s = rw (← k, q) (record { same = s.same; held = holds_none h; said = s.said; noted = rw (tax_strays L D cur p c) (notes_none x u) })
+  pub tax_step : {j : Code.Sum} {p' : Option ℤ × Option ℤ} {e' : Entries} → j ≡ Kind.TaxTotal → sum_is j ≡ sum_of D c → Told (taxed (tax_total_of L D cur (taxing p) c)) e p' e' → Acted (made taxes (summing L D cur n m c)) x p' h h e₀ e' u₀ u
+  unfolding summing summand with_vat
+  tax_step q k s =
+      let s' = rw a.same at s in
+      rw (← k, q, tax_beside L D cur m c) (record { same = s'.same; held = a.held; said = said_then a.said s'.said; noted = a.noted })
 
   -- one that is not mapped
-  pub unread_step : {u' : UnmappedRows} → j ≡ Kind.Unread → Notes x (record { parent = Parent.MonetarySummation; name = D.name c } ∷ []) u u' → Acted (made taxes (summing L D cur n (taxing p) c)) x p h h e e u u'
+  pub unread_step : {j : Code.Sum} {u' : UnmappedRows} → j ≡ Kind.Unread → sum_is j ≡ sum_of D c → Notes x (record { parent = Parent.MonetarySummation; name = D.name c } ∷ []) u u' → Acted (made taxes (summing L D cur n m c)) x p h h e₀ e u₀ u'
   unfolding summing summand
-  unread_step q s = rw (← k, q) (record { same = refl; held = holds_none h; said = said_none e; noted = s })
+  unread_step q k s = rw (← k, q) (record { same = a.same; held = a.held; said = a.said; noted = notes_then a.noted s })
+
+  -- any child, as told beside BT-110 and BT-111 alone
+  pub acted_then : {p' : Option ℤ × Option ℤ} {e' : Entries} {u' : UnmappedRows} → Acted (made taxes (summing L D cur n (taxing p) c)) x p' h h e e' u u' → Acted (made taxes (summing L D cur n m c)) x p' h h e₀ e' u₀ u'
+  acted_then s =
+      let b = behind L D cur n c m in
+      let t = rw a.same at s in
+      record {
+        same = rw b.taxes t.same;
+        held = holds_none h;
+        said = rw b.says (said_then a.said t.said);
+        noted = rw b.strays (notes_then a.noted t.noted);
+      }

@@ -1,6 +1,6 @@
 -- What the code's values mean, and what a reading of a summation's children makes.
-use Rattle.std.specs.Prelude.{◌≡◌, List, [], ℕ, ℤ}
-use Rattle.std.proofs.Math.Option.{Option, none}
+use Rattle.std.specs.Prelude.{◌≡◌, [], ℕ, ℤ}
+use Rattle.std.proofs.Math.Option.{Option, none, some}
 use Rattle.text.specs.Utf8.{bytes}
 use Rattle.names.specs.declared.path.Path.TheVariants as Path
 use Rattle.names.specs.declared.term.Term.TheVariants as Term
@@ -9,7 +9,7 @@ use Rattle.report.specs.Values.{text_of, amount_of}
 use Rattle.settlement.specs.Document.{Doc}
 use Rattle.settlement.specs.Shapes.{Totals, Currencies, Act}
 use Rattle.settlement.specs.Summation.{Summing}
-use Rattle.settlement.specs.Values.{Says, site, amount}
+use Rattle.settlement.specs.Values.{Lent, Says, site, amount}
 use Rattle.amounts.specs.Amounts.{saying}
 use Rattle.values.specs.Sites.{site_of}
 use Rattle.totals.specs.declared.firsts.First.{First}
@@ -77,8 +77,8 @@ first_of f Optional.Rounding = f.rounding
 first_of f Optional.Prepaid = f.paid
 
 -- what the first child of each such name of a summation n says was heard
-pub record Hears (mode : ℕ) (currency : List ℕ) (D : Doc ℕ Place) (n : ℕ) (f : Firsts) : Type 0 where
-  pub allowance : said_by f.allowance ≡ amount mode currency D (site Path.SummationAllowanceTotalAmount Term.Bt107) n (bytes "AllowanceTotalAmount")
-  pub charge : said_by f.charge ≡ amount mode currency D (site Path.SummationChargeTotalAmount Term.Bt108) n (bytes "ChargeTotalAmount")
-  pub rounding : said_by f.rounding ≡ amount mode currency D (site Path.SummationRoundingAmount Term.Bt114) n (bytes "RoundingAmount")
-  pub paid : said_by f.paid ≡ amount mode currency D (site Path.SummationTotalPrepaidAmount Term.Bt113) n (bytes "TotalPrepaidAmount")
+pub record Hears (L : Lent) (D : Doc ℕ Place) (n : ℕ) (f : Firsts) : Type 0 where
+  pub allowance : said_by f.allowance ≡ amount L.mode L.currency D (site Path.SummationAllowanceTotalAmount (some Term.Bt107)) n (bytes "AllowanceTotalAmount")
+  pub charge : said_by f.charge ≡ amount L.mode L.currency D (site Path.SummationChargeTotalAmount (some Term.Bt108)) n (bytes "ChargeTotalAmount")
+  pub rounding : said_by f.rounding ≡ amount L.mode L.currency D (site Path.SummationRoundingAmount (some Term.Bt114)) n (bytes "RoundingAmount")
+  pub paid : said_by f.paid ≡ amount L.mode L.currency D (site Path.SummationTotalPrepaidAmount (some Term.Bt113)) n (bytes "TotalPrepaidAmount")

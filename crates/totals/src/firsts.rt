@@ -1,10 +1,10 @@
 // The optional amounts in the currency of the invoice. Every child of such a name reads the first child of that
 // name again, so that child is heard once: the amount is its, and only what it says is repeated.
 ghost use Rattle.std.specs.Prelude.{◌≡◌};
-ghost use Rattle.table.specs.Table.{found};
+ghost use Rattle.text.specs.Options.{option_of};
 ghost use Rattle.report.specs.Values.{amount_of};
 ghost use Rattle.element.specs.LinkDoc.{doc_of};
-ghost use Rattle.values.specs.Sites.{site_of};
+ghost use Rattle.values.specs.Sites.{site_of, lent_of};
 ghost use Rattle.values.specs.Told.{Said};
 ghost use Rattle.amounts.specs.Amounts.{amount_found};
 ghost use Rattle.totals.specs.Reading.{first_of, said_by, Hears};
@@ -14,7 +14,7 @@ use amount::InvoiceAmount;
 use amounts::Heard;
 use element::Document;
 use names::{Path, Term};
-use values::{Entries, Site};
+use values::{Entries, Lent, Site};
 
 // What the first child of a name says as an amount, and where.
 #[derive(Clone, Copy)]
@@ -33,39 +33,43 @@ pub(crate) struct Firsts {
 }
 
 // What a child e that was looked for says, nothing where there is none.
-#[tactic(auto, using(element::proofs::Documents::found_is), unfolding(amounts::specs::Amounts::amount_found))]
-fn hear_child(doc: &Document, mode: u32, currency: &[u8], site: Site, e: usize) -> First
-    ensures { said_by result ≡ amount_found mode currency.now (doc_of doc.now) (site_of site) (found e) }
+#[tactic(auto, unfolding(amounts::specs::Amounts::amount_found))]
+fn hear_child(doc: &Document, lent: &Lent, site: Site, e: Option<usize>) -> First
+    ensures { said_by result ≡ amount_found (lent_of lent.now) (doc_of doc.now) (site_of site) (option_of e) }
 {
-    if e == 0 {
-        return First {
+    match e {
+        None => First {
             heard: Ok(None),
             site,
-        };
-    }
-    First {
-        heard: amounts::hear(doc, mode, currency, e),
-        site,
+        },
+        Some(e) => First {
+            heard: amounts::hear(doc, lent, e),
+            site,
+        },
     }
 }
 
 // What the first child of each optional amount's name of a summation n says.
-pub(crate) fn hear_firsts(doc: &Document, mode: u32, currency: &[u8], n: usize) -> Firsts
-    ensures { Hears mode currency.now (doc_of doc.now) n result }
+pub(crate) fn hear_firsts(doc: &Document, lent: &Lent, n: usize) -> Firsts
+    ensures { Hears (lent_of lent.now) (doc_of doc.now) n result }
 {
-    let mut kids: [usize; 4] = [0; 4];
-    let names =
-        b"\x14AllowanceTotalAmount\x11ChargeTotalAmount\x0eRoundingAmount\x12TotalPrepaidAmount";
-    doc.first_children(n, names, &mut kids);
+    let mut kids = [None; 4];
+    let names: [&[u8]; 4] = [
+        b"AllowanceTotalAmount",
+        b"ChargeTotalAmount",
+        b"RoundingAmount",
+        b"TotalPrepaidAmount",
+    ];
+    doc.first_children(n, &names, &mut kids);
     let [allowance, charge, rounding, paid] = kids;
-    let site = values::site(Path::SummationAllowanceTotalAmount, Term::Bt107);
-    let allowance = hear_child(doc, mode, currency, site, allowance);
-    let site = values::site(Path::SummationChargeTotalAmount, Term::Bt108);
-    let charge = hear_child(doc, mode, currency, site, charge);
-    let site = values::site(Path::SummationRoundingAmount, Term::Bt114);
-    let rounding = hear_child(doc, mode, currency, site, rounding);
-    let site = values::site(Path::SummationTotalPrepaidAmount, Term::Bt113);
-    let paid = hear_child(doc, mode, currency, site, paid);
+    let site = values::site(Path::SummationAllowanceTotalAmount, Some(Term::Bt107));
+    let allowance = hear_child(doc, lent, site, allowance);
+    let site = values::site(Path::SummationChargeTotalAmount, Some(Term::Bt108));
+    let charge = hear_child(doc, lent, site, charge);
+    let site = values::site(Path::SummationRoundingAmount, Some(Term::Bt114));
+    let rounding = hear_child(doc, lent, site, rounding);
+    let site = values::site(Path::SummationTotalPrepaidAmount, Some(Term::Bt113));
+    let paid = hear_child(doc, lent, site, paid);
     Firsts {
         allowance,
         charge,

@@ -1,7 +1,6 @@
 // What a summation holds, and what its children are read by.
 use amount::InvoiceAmount;
 use report::Place;
-use values::Lent;
 
 // The amounts that may be absent: BT-107, BT-108, BT-110, BT-111, BT-113 and BT-114.
 #[derive(Clone, Copy)]
@@ -34,7 +33,7 @@ pub struct Currencies {
 // What the children of a summation n are read by.
 #[derive(Clone, Copy)]
 pub(crate) struct Frame {
-    pub(crate) lent: Lent,
+    pub(crate) mode: u32,
     pub(crate) read: Currencies,
     pub(crate) n: usize,
 }

@@ -42,6 +42,7 @@ const SUMS: [(&[u8], Sum); 9] = [
 ];
 
 // What a name stands for.
+// As `kind_named` in `kinds`, over a table and an enum of its own.
 fn sum_named(name: &[u8]) -> Sum
     ensures { sum_is result ≡ meant unread sums name.now }
 {

@@ -1,21 +1,22 @@
 // The children of a summation, one after the other.
-ghost use Rattle.std.specs.Prelude.{List, ℕ};
+ghost use Rattle.std.specs.Prelude.{◌≡◌};
 ghost use Rattle.report.specs.declared.held.HeldRows.{HeldRows};
 ghost use Rattle.settlement.specs.Summation.{summing, summed};
+ghost use Rattle.settlement.specs.Values as reading;
 ghost use Rattle.element.specs.LinkDoc.{doc_of, lent_text};
 ghost use Rattle.values.specs.Sites.{lent_of};
 ghost use Rattle.unmapped.specs.Acted.{Acted};
 ghost use Rattle.totals.specs.Reading.{currencies, taxes_of, taxes, taxing, sums_of, amounts, made, Hears};
 
 use crate::firsts::{Firsts, amount_of, hear_firsts, say_again};
-use crate::state::{Frame, Sums};
+use crate::state::{Currencies, Frame, Sums};
 use crate::sum::{Sum, sum_of};
 use crate::tax::{Taxes, tax_total};
 use element::Document;
 use names::Parent;
 use report::Unmapped;
 use unmapped::UnmappedRows;
-use values::Entries;
+use values::{Entries, Lent};
 
 // BT-110 and BT-111 after child c, by those before it.
 fn read_child(
@@ -27,7 +28,7 @@ fn read_child(
     earlier: Taxes,
     c: usize,
 ) -> Taxes
-    ensures { (currency : List ℕ) (h : HeldRows) → Hears frame.lent.mode currency (doc_of doc.now) frame.n firsts.now → Acted (made taxes (summing (lent_of frame.lent currency) (doc_of doc.now) (currencies frame.read) frame.n (taxing (taxes_of earlier)) c)) (lent_text doc.now) (taxes_of result) h h entries.old entries.new unmapped.old unmapped.new }
+    ensures { (L : reading.Lent) (h : HeldRows) → L.mode ≡ frame.mode → Hears L (doc_of doc.now) frame.n firsts.now → Acted (made taxes (summing L (doc_of doc.now) (currencies frame.read) frame.n (taxing (taxes_of earlier)) c)) (lent_text doc.now) (taxes_of result) h h entries.old entries.new unmapped.old unmapped.new }
 {
     match sum_of(doc, c) {
         Sum::Required => earlier,
@@ -35,7 +36,7 @@ fn read_child(
             say_again(entries, firsts, which);
             earlier
         }
-        Sum::TaxTotal => tax_total(doc, frame.lent, entries, frame.read, earlier, c),
+        Sum::TaxTotal => tax_total(doc, frame.mode, entries, frame.read, earlier, c),
         Sum::Unread => {
             let element = Unmapped {
                 parent: Parent::MonetarySummation,
@@ -55,7 +56,7 @@ fn read_children(
     frame: Frame,
     firsts: &Firsts,
 ) -> Taxes
-    ensures { (currency : List ℕ) (h : HeldRows) → Hears frame.lent.mode currency (doc_of doc.now) frame.n firsts.now → Acted (made taxes (summed (lent_of frame.lent currency) (doc_of doc.now) (currencies frame.read) frame.n)) (lent_text doc.now) (taxes_of result) h h entries.old entries.new unmapped.old unmapped.new }
+    ensures { (L : reading.Lent) (h : HeldRows) → L.mode ≡ frame.mode → Hears L (doc_of doc.now) frame.n firsts.now → Acted (made taxes (summed L (doc_of doc.now) (currencies frame.read) frame.n)) (lent_text doc.now) (taxes_of result) h h entries.old entries.new unmapped.old unmapped.new }
 {
     let mut taxes = Taxes {
         vat: None,
@@ -70,14 +71,20 @@ fn read_children(
 // The amounts that may be absent, after all children.
 pub(crate) fn sums(
     doc: &Document,
-    currency: &[u8],
+    lent: &Lent,
     entries: &mut Entries,
     unmapped: &mut UnmappedRows,
-    frame: Frame,
+    read: Currencies,
+    n: usize,
 ) -> Sums
-    ensures { (h : HeldRows) → Acted (made amounts (summed (lent_of frame.lent currency.now) (doc_of doc.now) (currencies frame.read) frame.n)) (lent_text doc.now) (sums_of result) h h entries.old entries.new unmapped.old unmapped.new }
+    ensures { (h : HeldRows) → Acted (made amounts (summed (lent_of lent.now) (doc_of doc.now) (currencies read) n)) (lent_text doc.now) (sums_of result) h h entries.old entries.new unmapped.old unmapped.new }
 {
-    let firsts = hear_firsts(doc, frame.lent.mode, currency, frame.n);
+    let firsts = hear_firsts(doc, lent, n);
+    let frame = Frame {
+        mode: lent.mode,
+        read,
+        n,
+    };
     let taxes = read_children(doc, entries, unmapped, frame, &firsts);
     Sums {
         allowance: amount_of(firsts.allowance),

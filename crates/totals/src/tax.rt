@@ -1,10 +1,10 @@
 // Tax totals: BT-110 and BT-111.
-ghost use Rattle.std.specs.Prelude.{◌≡◌, cond, ◌&&◌, List, ℕ};
+ghost use Rattle.std.specs.Prelude.{◌≡◌, cond, ◌&&◌, List};
 ghost use Rattle.report.specs.Rows as rows;
 ghost use Rattle.report.specs.Values.{place_of, text_of, amount_of};
 ghost use Rattle.settlement.specs.Summation.{is_none, is_currency, tax_in, tax_total_of};
+ghost use Rattle.settlement.specs.Values.{Lent};
 ghost use Rattle.element.specs.LinkDoc.{doc_of};
-ghost use Rattle.values.specs.Sites.{lent_of};
 ghost use Rattle.values.specs.Told.{Said, Told};
 ghost use Rattle.values.specs.declared.saying.Entries.{Entries};
 ghost use Rattle.totals.specs.Reading.{currencies, taxes_of, taxing, taxed};
@@ -14,7 +14,7 @@ use amount::InvoiceAmount;
 use element::Document;
 use names::{Message, Path, Term};
 use report::Place;
-use values::{Entries, Lent};
+use values::Entries;
 
 // BT-110 and BT-111.
 #[derive(Clone, Copy)]
@@ -71,7 +71,7 @@ fn tax_in(
             ..taxes
         };
     }
-    let site = values::site(Path::SummationTaxTotalAmount, Term::Bt110);
+    let site = values::site(Path::SummationTaxTotalAmount, Some(Term::Bt110));
     entries.say(Message::TaxTotalCurrency, site, Some(id));
     taxes
 }
@@ -80,15 +80,15 @@ fn tax_in(
 #[tactic(auto, unfolding(settlement::specs::Summation::tax_total_of, settlement::specs::Summation::with_vat, text::specs::Utf8::bytes, text::specs::Utf8::encode))]
 pub(crate) fn tax_total(
     doc: &Document,
-    lent: Lent,
+    mode: u32,
     entries: &mut Entries,
     read: Currencies,
     taxes: Taxes,
     c: usize,
 ) -> Taxes
-    ensures { (currency : List ℕ) → Told (taxed (tax_total_of (lent_of lent currency) (doc_of doc.now) (currencies read) (taxing (taxes_of taxes)) c)) entries.old (taxes_of result) entries.new }
+    ensures { (L : Lent) → L.mode ≡ mode → Told (taxed (tax_total_of L (doc_of doc.now) (currencies read) (taxing (taxes_of taxes)) c)) entries.old (taxes_of result) entries.new }
 {
-    let amount = amounts::tax_amount(doc, lent.mode, entries, c);
+    let amount = amounts::tax_amount(doc, mode, entries, c);
     match doc.attribute(c, b"currencyID") {
         None => Taxes {
             vat: amount,

@@ -8,7 +8,7 @@ ghost use Rattle.unmapped.specs.Noting.{Noted, inserted, noting};
 ghost use Rattle.unmapped.specs.Acted.{Notes};
 
 use crate::search::seek;
-use report::{UNMAPPED_WIDTH, Unmapped, put_unmapped};
+use report::{UNMAPPED_WIDTH, Unmapped, put_row};
 
 // Moves the numbers from a place up to an end by one row.
 fn move_up(list: &mut [i64], at: usize, end: usize)
@@ -26,12 +26,13 @@ fn insert_row(list: &mut [i64], count: usize, u: Unmapped, k: usize) -> usize
     let at = k * UNMAPPED_WIDTH;
     let end = count * UNMAPPED_WIDTH;
     move_up(list, at, end);
-    put_unmapped(list, at, u);
+    put_row(list, at, &u.row());
     count + 1
 }
 
 // Notes an unmapped element: its row goes where it belongs among the rows held so far, if its parent
 // and name are not there yet; answers how many rows there are then.
+// It takes any list and any count, which `UnmappedRows` need not have been made for.
 pub fn note_unmapped(text: &[u8], list: &mut [i64], count: usize, u: Unmapped) -> usize
     ensures { Noted (noting text.now list.old count (unmapped_of u)) list.new result }
 {

@@ -10,6 +10,7 @@ use report::{UNMAPPED_WIDTH, Unmapped};
 use std::cmp::Ordering;
 
 // A number of the list as a place or a length: 0 past its end, and where it is negative.
+// Two calls of the library, which `number_at` in `fields` does not both make.
 fn number_at(list: &[i64], n: usize) -> usize
     ensures { result ≡ or_zero (get_or list.now n (pos 0)) }
 {
@@ -31,7 +32,7 @@ fn number(list: &[i64], k: usize, j: usize) -> usize
 pub(crate) fn standing(text: &[u8], list: &[i64], u: Unmapped, k: usize) -> Ordering
     ensures { ordering result ≡ row.standing text.now list.now (unmapped_of u) k }
 {
-    let own = u.parent.number() as usize;
+    let own = u32::from(u.parent) as usize;
     let held = number(list, k, 0);
     if own < held {
         return Ordering::Less;

@@ -7,8 +7,8 @@ use crate::row::standing;
 use report::Unmapped;
 use std::cmp::Ordering;
 
-// Where the row of an element goes among count rows, unless its parent and name are there already. The
-// rows are numbers in a lent list, so the library has no search over them: they are halved until none is left.
+// Where the row of an element goes among count rows, unless its parent and name are there already. By hand, for
+// this is determined on any list of numbers (`halve`), and the library's search tells it of ascending rows alone.
 pub(crate) fn seek(text: &[u8], list: &[i64], count: usize, u: Unmapped) -> Option<usize>
     ensures { result ≡ sought text.now list.now count (unmapped_of u) }
 {

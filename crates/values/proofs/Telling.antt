@@ -3,10 +3,8 @@ use mathlib.Core.Path.{◌≡◌, refl, ap, ◌∙◌}
 use mathlib.Core.List.{List, [], ◌∷◌, ◌++◌}
 use mathlib.Core.Option.{Option}
 use lib.IntN.{ℤ, pos}
-use lib.ListN.{length}
-use Rattle.names.proofs.Puts.{length_put}
 use Rattle.report.specs.Rows.{Place, Entry}
-use Rattle.report.specs.Encoding.{entry_row, rows_of}
+use Rattle.report.specs.Encoding.{entry_row}
 use Rattle.report.specs.Placed.{Placed}
 use Rattle.report.proofs.RowsOf.{rows_none, rows_one, rows-then}
 use Rattle.settlement.specs.Document.{or}
@@ -45,7 +43,3 @@ told_or_zero p e = record { same = e ∙ ap (or (pos 0)) p.same; said = p.said }
 -- one entry first
 pub told_after : {A : Type 0} {e : Entry Place} {s : Says Place A} {a b c : Entries} {v : A} → Said (e ∷ []) a b → Told s b v c → Told (s.0, e ∷ s.1) a v c
 told_after p q = record { same = q.same; said = said_then p q.said }
-
--- the list keeps its length
-pub said_length : {es : List (Entry Place)} {a b : Entries} → Said es a b → length b.list.now ≡ length a.list.now
-said_length {es} {a} p = ap length p.rows.now ∙ length_put a.list.now a.at (rows_of entry_row es)

@@ -11,7 +11,6 @@ use Rattle.codes.specs.Vat.{vat}
 use Rattle.codes.specs.declared.rules.Rule.{Rule}
 use Rattle.names.specs.declared.message.Message.{Message}
 use Rattle.names.specs.declared.path.Path.{Path}
-use Rattle.names.specs.declared.term.Term.TheVariants as Term
 use Rattle.report.specs.Rows.{Place, Entry}
 use Rattle.settlement.specs.Document.{Doc, maybe}
 use Rattle.settlement.specs.TableDoc.{shows}
@@ -22,11 +21,15 @@ use Rattle.values.specs.declared.dates.DatePaths.{DatePaths}
 
 -- where an entry is made
 abbrev pub site_of : Code.Site → Site
-site_of s = record { path = s.path; term = s.term; index = option_of s.index }
+site_of s = record { path = s.path; term = option_of s.term; index = option_of s.index }
 
--- what is lent beside the table, with the invoice currency
-abbrev pub lent_of : CodeLent.Lent → List ℕ → Lent
-lent_of l currency = record { mode = l.mode; rules = l.rules; currency = currency; extension = l.extension }
+-- what is lent beside the table, with any invoice currency
+abbrev pub lent_for : CodeLent.Lent → List ℕ → Lent
+lent_for l currency = record { mode = l.mode; rules = l.rules; currency = currency; extension = l.extension }
+
+-- with its own
+abbrev pub lent_of : CodeLent.Lent → Lent
+lent_of l = lent_for l l.currency.now
 
 -- what the parse of a trimmed text at a place answered: the value, or its message with that text
 unfoldable pub answered_at : {A : Type 0} → (ℕ → Message) → Site → Place → Answer A → Says Place (Option A)
@@ -44,8 +47,8 @@ day_at x s p = answered_at date_message s p (Calendar.date_of (shows x p))
 unfoldable pub date_at : Doc ℕ Place → List ℕ → Path → ℕ → Place → Says Place (Option ℕ)
 date_at D x p e own =
     cond (maybe true (λ f. date_format (D.bytes f)) (D.attr e (bytes "format")))
-    (day_at x (site p Term.None) own)
-    (none, entry Message.DateFormat (site p Term.None) (some own) ∷ [])
+    (day_at x (site p none) own)
+    (none, entry Message.DateFormat (site p none) (some own) ∷ [])
 
 -- a date element of the other spelling, or not
 unfoldable pub spelling : ℕ → Doc ℕ Place → Bool → Path → ℕ → Says Place (Option ℕ)

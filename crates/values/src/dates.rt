@@ -7,7 +7,6 @@ ghost use Rattle.report.specs.Values.{place_of, text_of};
 ghost use Rattle.settlement.specs.Document.{maybe};
 ghost use Rattle.settlement.specs.TableDoc.{shows};
 ghost use Rattle.settlement.specs.Values as reading;
-ghost use Rattle.table.specs.Table.{found};
 ghost use Rattle.element.specs.LinkDoc.{doc_of, lent_text};
 ghost use Rattle.values.specs.Sites.{site_of, day_at, date_at, spelling, date_of};
 ghost use Rattle.values.specs.Told.{Told};
@@ -16,7 +15,7 @@ use crate::locating;
 use crate::saying::{Entries, Site};
 use date::DateError;
 use element::Document;
-use names::{Message, Path, Term};
+use names::{Message, Path};
 use report::Place;
 
 // How a date is spelled: whether it is a tax point, which is a DateString, as no other date is, and the paths of
@@ -50,6 +49,7 @@ fn message_of(error: DateError) -> Message
 }
 
 // The date that a trimmed text spells.
+// As for a percentage, but for its errors and what each says.
 fn parsed(doc: &Document, entries: &mut Entries, site: Site, own: Place) -> Option<u32>
     ensures { Told (day_at (lent_text doc.now) (site_of site) (place_of own)) entries.old (option_of result) entries.new }
 {
@@ -66,7 +66,7 @@ fn parsed(doc: &Document, entries: &mut Entries, site: Site, own: Place) -> Opti
 fn date_from(doc: &Document, entries: &mut Entries, path: Path, e: usize, own: Place) -> Option<u32>
     ensures { Told (date_at (doc_of doc.now) (lent_text doc.now) path e (place_of own)) entries.old (option_of result) entries.new }
 {
-    let site = locating::site(path, Term::None);
+    let site = locating::site(path, None);
     let format = doc.attribute_text(e, b"format");
     if is_right_format(doc, format) {
         return parsed(doc, entries, site, own);
@@ -88,7 +88,7 @@ fn spelled(
 {
     let own = doc.own_text(mode, e);
     if other {
-        let site = locating::site(path, Term::None);
+        let site = locating::site(path, None);
         entries.say(Message::OtherDateElement, site, Some(own));
         return date_from(doc, entries, path, e, own);
     }
@@ -105,18 +105,13 @@ fn date_in(
 ) -> Option<u32>
     ensures { Told (reading.date_in mode (doc_of doc.now) paths.point paths.time paths.day w) entries.old (option_of result) entries.new }
 {
-    let point = paths.point;
-    let time = paths.time;
-    let day = paths.day;
-    let e = doc.kid(w, b"DateTimeString");
-    if e == 0 {
-        let d = doc.kid(w, b"DateString");
-        if d == 0 {
-            return None;
+    match doc.kid(w, b"DateTimeString") {
+        Some(e) => spelled(doc, mode, entries, paths.point, paths.time, e),
+        None => {
+            let e = doc.kid(w, b"DateString")?;
+            spelled(doc, mode, entries, !paths.point, paths.day, e)
         }
-        return spelled(doc, mode, entries, !point, day, d);
     }
-    spelled(doc, mode, entries, point, time, e)
 }
 
 // The date in a child w that was looked for, absent where there is none.
@@ -125,12 +120,9 @@ pub fn date(
     mode: u32,
     entries: &mut Entries,
     paths: DatePaths,
-    w: usize,
+    w: Option<usize>,
 ) -> Option<u32>
-    ensures { Told (date_of mode (doc_of doc.now) paths (found w)) entries.old (option_of result) entries.new }
+    ensures { Told (date_of mode (doc_of doc.now) paths (option_of w)) entries.old (option_of result) entries.new }
 {
-    if w == 0 {
-        return None;
-    }
-    date_in(doc, mode, entries, paths, w)
+    date_in(doc, mode, entries, paths, w?)
 }

@@ -1,9 +1,11 @@
 // What is lent beside a table.
 
-// The mode, the rules number, and whether the specification identifier is that of a conformant extension.
+// The mode, the rules number, whether the specification identifier is that of a conformant extension, and the
+// invoice currency.
 #[derive(Clone, Copy)]
-pub struct Lent {
+pub struct Lent<'a> {
     pub mode: u32,
     pub rules: u32,
     pub extension: bool,
+    pub currency: &'a [u8],
 }

@@ -1,10 +1,10 @@
 // The values of a settlement but for amounts: percentages, dates and codes, each with the entries that reading
 // it makes, how an entry is said and where.
 //
-// A function that has something to say is lent the entries with the place of the next one (`Entries`). The
-// document that it reads is lent as one value. A percentage or a code is read from the text of a child that
-// was looked for, a date from the child itself (0: there is none). No public function has a `requires`, and
-// the crate assumes nothing of its own.
+// A function that has something to say is lent the entries with the place of the next one (`Entries`), to
+// write, beside the document and `Lent`, to read: each is one value. A percentage or a code is read from
+// the text of a child that was looked for, a date from the child itself (`None`: there is none). No public
+// function has a `requires`, and the crate assumes nothing of its own.
 #![tactic(auto)]
 
 mod dates;

@@ -1,5 +1,6 @@
 // Sites, with a group and without.
 ghost use Rattle.std.specs.Prelude.{◌≡◌};
+ghost use Rattle.text.specs.Options.{option_of};
 ghost use Rattle.settlement.specs.Values as reading;
 ghost use Rattle.values.specs.Sites.{site_of};
 
@@ -7,8 +8,8 @@ use crate::saying::Site;
 use names::{Path, Term};
 
 // A site without a group.
-pub fn site(path: Path, term: Term) -> Site
-    ensures { site_of result ≡ reading.site path term }
+pub fn site(path: Path, term: Option<Term>) -> Site
+    ensures { site_of result ≡ reading.site path (option_of term) }
 {
     Site {
         path,
@@ -23,7 +24,7 @@ pub fn grouped(path: Path, term: Term, index: u32) -> Site
 {
     Site {
         path,
-        term,
+        term: Some(term),
         index: Some(index),
     }
 }

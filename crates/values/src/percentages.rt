@@ -25,6 +25,7 @@ fn message_of(error: PercentageError) -> Message
 }
 
 // The percentage that a trimmed text spells.
+// As for a date, but for its errors and what each says.
 fn parsed(doc: &Document, entries: &mut Entries, site: Site, own: Place) -> Option<Percentage>
     ensures { Told (percent_at (lent_text doc.now) (site_of site) (place_of own)) entries.old (percent_of result) entries.new }
 {

@@ -13,11 +13,11 @@ use report::{Entry, Place};
 #[derive(Clone, Copy)]
 pub struct Site {
     pub(crate) path: Path,
-    pub(crate) term: Term,
+    pub(crate) term: Option<Term>,
     pub(crate) index: Option<u32>,
 }
 
-// The lent entries, and where the next goes.
+// The lent entries, and where the next goes: not `HeldRows`, so that no held row is put among them.
 #[derive(Drop)]
 pub struct Entries<'a> {
     pub list: &'a mut [i64],
@@ -36,7 +36,7 @@ impl Entries<'_> {
             index: site.index,
             value,
         };
-        self.at = report::put_entry(self.list, self.at, entry);
+        self.at = report::put_row(self.list, self.at, &entry.row());
     }
 
     // Says that a required term is missing, where its rule is in force.

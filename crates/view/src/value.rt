@@ -41,6 +41,7 @@ impl<'a> View<'a> {
 }
 
 // The bytes by way of a view, for callers that have the text and the two numbers.
+// Beside the method for callers with plain parameters.
 pub fn bytes_at(text: &[u8], start: i64, length: i64) -> &[u8]
     ensures { result.now ≡ shown_at text.now start length }
 {
@@ -48,6 +49,7 @@ pub fn bytes_at(text: &[u8], start: i64, length: i64) -> &[u8]
 }
 
 // Whether the value is there, by way of a view, for the same callers.
+// Beside the method for callers with plain parameters.
 pub fn is_there_at(text: &[u8], start: i64, length: i64) -> bool
     ensures { result ≡ lies text.now start length }
 {

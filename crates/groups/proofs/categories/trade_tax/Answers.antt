@@ -2,17 +2,17 @@ use mathlib.Core.Path.{refl}
 use native.Mathlib.Omega.{arith}
 use Rattle.text.specs.Order.{equal}
 use Rattle.text.specs.Utf8.{bytes, encode}
-use Rattle.text.specs.Place.{place, all_names, names_in}
+use Rattle.text.specs.Place.{place}
 use Rattle.element.proofs.Documents.{kid_kept}
 use Rattle.values.proofs.Telling.{told_as}
 use Rattle.groups.proofs.Kids.{category_kids}
 use Rattle.groups.proofs.categories.trade_tax.Goals as goal
 
 pub returns : goal.returns
-unfolding bytes encode equal place all_names names_in
+unfolding bytes encode equal place
 returns c =
-    let t = c.args.doc.now.table.now in
-    let x = c.args.doc.now.text.now in
+    let t = c.args.doc.now.table.records.now in
+    let x = c.args.doc.now.table.text.now in
     let l = c.args.doc.now.links.now in
     let n = c.args.n in
     let kept = c.first_children.ensures in

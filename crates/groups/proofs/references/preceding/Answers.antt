@@ -2,7 +2,7 @@ use mathlib.Core.Path.{refl}
 use native.Mathlib.Omega.{arith}
 use Rattle.text.specs.Order.{equal}
 use Rattle.text.specs.Utf8.{bytes, encode}
-use Rattle.text.specs.Place.{place, all_names, names_in}
+use Rattle.text.specs.Place.{place}
 use Rattle.element.proofs.Documents.{kid_kept, kid_text_is}
 use Rattle.values.proofs.Telling.{told_as}
 use Rattle.values.proofs.Spelled.{code_kid, date_kid}
@@ -10,10 +10,10 @@ use Rattle.groups.proofs.Steps.{preceding_told}
 use Rattle.groups.proofs.references.preceding.Goals as goal
 
 pub returns : goal.returns
-unfolding bytes encode equal place all_names names_in
+unfolding bytes encode equal place
 returns c =
-    let t = c.args.doc.now.table.now in
-    let x = c.args.doc.now.text.now in
+    let t = c.args.doc.now.table.records.now in
+    let x = c.args.doc.now.table.text.now in
     let l = c.args.doc.now.links.now in
     let n = c.args.n in
     let kept = c.first_children.ensures in

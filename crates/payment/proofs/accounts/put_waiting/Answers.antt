@@ -1,8 +1,5 @@
 use Rattle.report.proofs.Holding.{holds_none}
 use Rattle.payment.proofs.accounts.put_waiting.Goals as goal
 
-pub returns-in-Some : goal.returns-in-Some
-returns-in-Some c = rw c.in-Some.is c.hold_transfer.ensures
-
 pub returns-in_default : goal.returns-in_default
 returns-in_default c = rw c.in_default.is (holds_none _)

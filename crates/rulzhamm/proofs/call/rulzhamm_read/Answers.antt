@@ -2,7 +2,7 @@ use Rattle.rulzhamm.proofs.Rows.{called, small}
 use Rattle.rulzhamm.proofs.call.rulzhamm_read.Goals as goal
 
 pub put_answer-requires : goal.put_answer-requires
-put_answer-requires c = small _ _ _ _ c.read-a.ensures
+put_answer-requires c = small _ _ _ _ c.read-read.ensures
 
 pub returns : goal.returns
-returns c = called c.read-a.ensures c.put_answer.ensures
+returns c = called c.read-read.ensures c.put_answer.ensures

@@ -1,13 +1,10 @@
-use mathlib.Core.Path.{refl, ◌∙◌}
+use mathlib.Core.Path.{◌∙◌}
 use native.Mathlib.Omega.{arith}
 use Rattle.text.proofs.Words.{words_differ, word_on, words_end}
 use Rattle.text.proofs.word.same_long.Goals as goal
 
 pub returns-then-word : goal.returns-then-word
 returns-then-word c = search words_differ
-
-pub loop-i-init : goal.loop-i-init
-loop-i-init c = (omega arith, refl)
 
 pub returns-then-word-2 : goal.returns-then-word-2
 returns-then-word-2 c = search words_differ

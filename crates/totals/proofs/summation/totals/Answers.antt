@@ -1,7 +1,7 @@
 use mathlib.Core.Path.{refl}
 use native.Mathlib.Omega.{arith}
 use Rattle.text.specs.Order.{equal}
-use Rattle.text.specs.Place.{place, all_names, names_in}
+use Rattle.text.specs.Place.{place}
 use Rattle.text.specs.Utf8.{bytes, encode}
 use Rattle.element.proofs.Documents.{kid_kept}
 use Rattle.amounts.proofs.Spelled.{required_told}
@@ -9,7 +9,7 @@ use Rattle.totals.proofs.Walks.{totals_acted}
 use Rattle.totals.proofs.summation.totals.Goals as goal
 
 pub returns : goal.returns
-unfolding bytes encode equal place all_names names_in
+unfolding bytes encode equal place
 returns c =
     let n = c.args.n in
     let kept = c.first_children.ensures in

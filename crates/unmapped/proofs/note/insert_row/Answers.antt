@@ -5,4 +5,4 @@ use Rattle.unmapped.proofs.note.insert_row.Goals as goal
 
 pub returns : goal.returns
 unfolding inserted
-returns c = record { list = row_before _ _ _ c.move_up.ensures c.put_unmapped.ensures; count = refl }
+returns c = record { list = row_before _ _ _ c.move_up.ensures (rw c.row.ensures at c.put_row.ensures); count = refl }

@@ -1,4 +1,3 @@
-use Rattle.element.proofs.Documents.{found_is}
 use Rattle.settlement.specs.Values as reading
 use Rattle.text.specs.Utf8.{bytes, encode}
 use Rattle.values.proofs.Spelled.{not_cond}
@@ -6,14 +5,14 @@ use Rattle.values.proofs.Telling.{told_silent}
 use Rattle.values.specs.Sites.{spelling}
 use Rattle.values.proofs.dates.date_in.Goals as goal
 
-pub returns-then-d-eq0 : goal.returns-then-d-eq0
+pub returns-in_err-e-in-None : goal.returns-in_err-e-in-None
 unfolding reading.date_in bytes encode
-returns-then-d-eq0 c = rw (← c.kid-e.ensures, c.if-e-eq0.true, ← c.kid-d.ensures, c.if-d-eq0.true) (told_silent _)
+returns-in_err-e-in-None c = rw (← c.kid.ensures, c.in-None.is, ← c.kid-in-None.ensures, c.in_err-e-in-None.was, c.from_residual.ensures) (told_silent _)
 
-pub returns-then-e-eq0 : goal.returns-then-e-eq0
+pub returns-in_ok-e-in-None : goal.returns-in_ok-e-in-None
 unfolding reading.date_in spelling bytes encode
-returns-then-e-eq0 c = rw (← c.kid-e.ensures, c.if-e-eq0.true, ← c.kid-d.ensures, found_is c.if-d-eq0.false) (rw (not_cond _ _ _) at c.spelled.ensures)
+returns-in_ok-e-in-None c = rw (← c.kid.ensures, c.in-None.is, ← c.kid-in-None.ensures, c.in_ok-e-in-None.was) (rw (not_cond _ _ _) at c.spelled-in-None.ensures)
 
-pub returns : goal.returns
+pub returns-in-Some : goal.returns-in-Some
 unfolding reading.date_in spelling bytes encode
-returns c = rw (← c.kid-e.ensures, found_is c.if-e-eq0.false) c.spelled-2.ensures
+returns-in-Some c = rw (← c.kid.ensures, c.in-Some.is) c.spelled.ensures

@@ -3,4 +3,4 @@ use Rattle.report.proofs.Holding.{holds_one}
 use Rattle.report.proofs.held.HeldRows.hold_allowance_charge.Goals as goal
 
 pub returns : goal.returns
-returns c = holds_one refl c.put_allowance_charge-self.ensures
+returns c = holds_one refl (rw c.row.ensures at c.put_row-self.ensures)

@@ -1,6 +1,0 @@
-use lib.Seq.{set_out}
-use mathlib.Core.Path.{sym}
-use Rattle.cases.proofs.put.Goals as goal
-
-pub returns-else-i-out : goal.returns-else-i-out
-returns-else-i-out g c = sym (set_out _ _ _ c.if-i-out.false)

@@ -1,0 +1,7 @@
+use Rattle.report.specs.Encoding.{held_row}
+use Rattle.report.proofs.Cells.{cell, literal}
+use Rattle.report.proofs.held.Transfer.row.Goals as goal
+
+pub returns : goal.returns
+unfolding held_row
+returns c = search (cell, literal) depth 20

@@ -1,5 +1,0 @@
-use Rattle.report.proofs.Cells.{as_row, cell}
-use Rattle.rulzhamm.proofs.terms_row.put_text.Goals as goal
-
-pub returns : goal.returns
-returns c = as_row _ _ (search cell) c.put_row.ensures
