@@ -1,12 +1,11 @@
-// Bytes and numbers in decimal digits, put into a lent list.
+// The line that is being written, into which bytes and numbers in decimal digits are put.
 //
-// Every function that puts bytes puts them from a place on, each where there is room, and answers where the
-// next go. All take all numbers and lists of any length, so no public function has a `requires`. The crate
-// assumes nothing of its own.
+// What is put goes behind what was put before, each byte where there is room. All functions take all numbers
+// and lists of any length, so no public function has a `requires`. The crate assumes nothing of its own.
 #![tactic(auto)]
 
-mod list;
+mod line;
 mod number;
 
-pub use list::{put_byte, put_bytes};
-pub use number::{natural, put_decimal, put_signed, size};
+pub use line::Line;
+pub use number::{natural, size};

@@ -15,6 +15,10 @@ column_of code.Column.Amount = amount
 column_of code.Column.Percent = percent
 column_of code.Column.Date = date
 
+-- a column by a letter: t text, a amount, p percentage, d date, any other a plain number
+unfoldable pub column_by : ℕ → Column
+column_by c = cond (eqb c 0x74) text (cond (eqb c 0x61) amount (cond (eqb c 0x70) percent (cond (eqb c 0x64) date plain)))
+
 -- a number of a row, 0 past its end
 abbrev pub cell : List ℤ → ℕ → ℤ
 cell row i = get_or row i (pos 0)

@@ -1,8 +1,7 @@
-// The fields of the lines of a printed reading that show a row's numbers, put as bytes into a lent list
-// (document 01, "The printed reading").
+// The fields of the lines of a printed reading that show a row's numbers, put behind what was put into
+// the line before (document 01, "The printed reading").
 //
-// Every function that puts bytes puts them from a place on, each where there is room, and answers where the
-// next go. All take all numbers and lists of any length, so no public function has a `requires`. The crate
+// All functions take all numbers and lists of any length, so no public function has a `requires`. The crate
 // assumes nothing of its own.
 #![tactic(auto)]
 

@@ -3,6 +3,7 @@ ghost use Rattle.std.specs.Prelude.{◌≡◌, drop};
 ghost use Rattle.fields.specs.Columns.{cell};
 
 // A row's number, 0 past its end.
+// One call of the library; so are the like of bytes and of other lists, and one for all is no plainer.
 pub fn number_at(row: &[i64], i: usize) -> i64
     ensures { result ≡ cell row.now i }
 {

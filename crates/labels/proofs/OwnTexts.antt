@@ -1,7 +1,7 @@
 -- The text of a path's, a term's or a parent's number is its own.
-use mathlib.Core.Path.{◌≡◌, refl, ◌∙◌, ap}
+use mathlib.Core.Path.{◌≡◌, refl}
 use mathlib.Core.List.{List, []}
-use mathlib.Core.Option.{Option, none, some, Option-elim}
+use mathlib.Core.Option.{none, some, Option-elim}
 use Prim.Native.String.{String}
 use Prim.Native.Nat.{ℕ}
 use Rattle.text.specs.Utf8.{bytes}
@@ -10,9 +10,9 @@ use Rattle.names.specs.declared.term.Term.{Term}
 use Rattle.names.specs.declared.parent.Parent.{Parent}
 use Rattle.names.specs.Numbered.{nth}
 use Rattle.names.specs.Path.{path_number, paths}
-use Rattle.names.specs.Term.{term_number, terms}
+use Rattle.names.specs.Term.{term_number, maybe_term_number, terms}
 use Rattle.names.specs.Parent.{parent_number, parents}
-use Rattle.names.proofs.Numbers.{or_none, path_found, term_found, parent_found}
+use Rattle.names.proofs.Numbers.{path_found, term_found, parent_found}
 use Rattle.labels.specs.Text.{text_at}
 use Rattle.labels.specs.PathText.{path_text, path_text_at}
 use Rattle.labels.specs.TermName.{term_group, term_group_at, term_name, term_name_at}
@@ -32,19 +32,15 @@ pub parent-name : (x : Parent) → parent_name_at (parent_number x) ≡ bytes (p
 unfolding parent_name_at
 parent-name x = text-found parent_name parents (parent_number x) x (parent_found x)
 
-module _ (f : Term → String) (h : f Term.None ≡ "") where
-  term-text : (t : Term) → text_at f terms (term_number t) ≡ bytes (f t)
-  unfolding text_at Option-elim bytes
-  term-text t = go (nth terms (term_number t)) ∙ ap (λ (x : Term). bytes (f x)) (term_found t)
-    where
-      go : (o : Option Term) → Option-elim o [] (λ x. bytes (f x)) ≡ bytes (f (or_none o))
-      go none = rw h
-      go (some x) = refl
-
 pub term-group : (t : Term) → term_group_at (term_number t) ≡ bytes (term_group t)
 unfolding term_group_at
-term-group t = term-text term_group refl t
+term-group t = text-found term_group terms (term_number t) t (term_found t)
 
 pub term-name : (t : Term) → term_name_at (term_number t) ≡ bytes (term_name t)
 unfolding term_name_at
-term-name t = term-text term_name refl t
+term-name t = text-found term_name terms (term_number t) t (term_found t)
+
+-- an absent term's are empty
+pub no-term : (term_group_at (maybe_term_number none) ≡ []) × (term_name_at (maybe_term_number none) ≡ [])
+unfolding term_group_at term_name_at text_at nth Option-elim
+no-term = (refl, refl)

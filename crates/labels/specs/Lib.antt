@@ -1,4 +1,3 @@
-pub mod Wrote
 pub mod Text
 pub mod PathText
 pub mod TermName

@@ -7,7 +7,6 @@ use Rattle.labels.specs.Text.{text_at}
 
 -- the name of the term's group, empty where it stands in none. The Rust prints `BG-22/BT-106`, with an index `BG-23[0]/BT-116`, and `BT-8` alone
 abbrev pub term_group : Term → String
-term_group Term.None = ""
 term_group Term.Bt106 = "BG-22"
 term_group Term.Bt107 = "BG-22"
 term_group Term.Bt108 = "BG-22"
@@ -40,7 +39,6 @@ term_group_at n = text_at term_group terms n
 
 -- the term's own name
 abbrev pub term_name : Term → String
-term_name Term.None = ""
 term_name Term.Bt106 = "BT-106"
 term_name Term.Bt107 = "BT-107"
 term_name Term.Bt108 = "BT-108"

@@ -1,8 +1,8 @@
 // The names of the parents of elements that the reader does not map.
+ghost use Rattle.std.specs.Prelude.{◌≡◌};
 ghost use Rattle.labels.specs.ParentName.{parent_name_at};
-ghost use Rattle.labels.specs.Wrote.{Wrote};
 
-use crate::table::put_text;
+use crate::table::text_of;
 
 // The elements' names, by their numbers from 0, which none has.
 const NAMES: [&str; 4] = [
@@ -12,10 +12,9 @@ const NAMES: [&str; 4] = [
     "SpecifiedTradeSettlementPaymentMeans",
 ];
 
-// Puts the name of the element that has a number into out at a place, as far as there is room, and
-// answers its length.
-pub fn put_parent_name(out: &mut [u8], at: usize, number: usize) -> usize
-    ensures { Wrote out.old at (parent_name_at number) out.new result }
+// The name of the element that has a number.
+pub fn parent_name(number: usize) -> &'static str
+    ensures { result.now ≡ parent_name_at number }
 {
-    put_text(out, at, &NAMES, number)
+    text_of(&NAMES, number)
 }

@@ -1,8 +1,8 @@
 // The texts of paths.
+ghost use Rattle.std.specs.Prelude.{◌≡◌};
 ghost use Rattle.labels.specs.PathText.{path_text_at};
-ghost use Rattle.labels.specs.Wrote.{Wrote};
 
-use crate::table::put_text;
+use crate::table::text_of;
 
 // The paths as the Rust prints them, by their numbers from 0, which none has.
 const TEXTS: [&str; 48] = [
@@ -56,10 +56,9 @@ const TEXTS: [&str; 48] = [
     "ApplicableHeaderTradeSettlement/CreditorReferenceID",
 ];
 
-// Puts the text of the path that has a number into out at a place, as far as there is room, and answers
-// its length.
-pub fn put_path_text(out: &mut [u8], at: usize, number: usize) -> usize
-    ensures { Wrote out.old at (path_text_at number) out.new result }
+// The text of the path that has a number.
+pub fn path_text(number: usize) -> &'static str
+    ensures { result.now ≡ path_text_at number }
 {
-    put_text(out, at, &TEXTS, number)
+    text_of(&TEXTS, number)
 }

@@ -1,8 +1,8 @@
 // The names of business terms (EN 16931-1) and of their groups.
+ghost use Rattle.std.specs.Prelude.{◌≡◌};
 ghost use Rattle.labels.specs.TermName.{term_group_at, term_name_at};
-ghost use Rattle.labels.specs.Wrote.{Wrote};
 
-use crate::table::put_text;
+use crate::table::text_of;
 
 // The names of the terms' groups, by the terms' numbers from 0, which is no term's.
 const GROUPS: [&str; 26] = [
@@ -18,18 +18,17 @@ const NAMES: [&str; 26] = [
     "BT-100", "BT-101", "BT-102", "BT-103", "BT-25", "BT-8",
 ];
 
-// Puts the name of the group of the term that has a number into out at a place, as far as there is
-// room, and answers its length. A group's index, if there is one, is printed after it.
-pub fn put_group_name(out: &mut [u8], at: usize, number: usize) -> usize
-    ensures { Wrote out.old at (term_group_at number) out.new result }
+// The name of the group of the term that has a number. A group's index, if there is one, is printed after
+// it.
+pub fn group_name(number: usize) -> &'static str
+    ensures { result.now ≡ term_group_at number }
 {
-    put_text(out, at, &GROUPS, number)
+    text_of(&GROUPS, number)
 }
 
-// Puts the name of the term that has a number, without its group, into out at a place, as far as there
-// is room, and answers its length.
-pub fn put_term_name(out: &mut [u8], at: usize, number: usize) -> usize
-    ensures { Wrote out.old at (term_name_at number) out.new result }
+// The name of the term that has a number, without its group.
+pub fn term_name(number: usize) -> &'static str
+    ensures { result.now ≡ term_name_at number }
 {
-    put_text(out, at, &NAMES, number)
+    text_of(&NAMES, number)
 }

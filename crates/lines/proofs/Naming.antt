@@ -1,9 +1,8 @@
 -- Laws of paths and terms that are put by their numbers.
 use mathlib.Core.Path.{◌≡◌, sym, ap, ◌∙◌}
-use mathlib.Core.Bool.{true, false}
+use mathlib.Core.Bool.{Bool, true, false}
 use mathlib.Core.List.{List, [], ◌∷◌}
 use Prim.Native.Nat.{ℕ}
-use native.Mathlib.Omega.{arith}
 use borrow.Author.Tests.{eq-eqb, ne_eqb}
 use lib.Dec.{eqb}
 use lib.Signed.{lt_z}
@@ -14,73 +13,63 @@ use mir.Val.{SFits}
 use mir.Facts.{to_z-of_z}
 use Rattle.text.specs.Utf8.{bytes, encode}
 use Rattle.text.specs.Span.{clipped}
-use Rattle.labels.specs.Wrote.{Wrote}
 use Rattle.labels.specs.PathText.{path_text_at}
 use Rattle.labels.specs.TermName.{term_group_at, term_name_at}
 use Rattle.labels.specs.ParentName.{parent_name_at}
-use Rattle.report.specs.Placed.{behind, Placed}
-use Rattle.report.proofs.Placing.{placed_none, placed_then, placed_by}
 use Rattle.decimals.specs.Decimal.{decimal, natural}
-use Rattle.decimals.proofs.Putting.{placed_as}
+use Rattle.decimals.specs.Puts.{Puts}
+use Rattle.decimals.specs.declared.line.Line.{Line}
+use Rattle.decimals.proofs.Putting.{puts_none, puts_then, puts_as}
 use Rattle.decimals.proofs.Signs.{held, below, above}
 use Rattle.fields.specs.Line.{printable, field}
 use Rattle.lines.specs.Labels.{bracketed, group_text, term_text, term_shown, unmapped_path, name_shown}
-
--- a text that was written, and the place behind it
-placed_wrote : {l t m : List ℕ} {at n r : ℕ} → Wrote l at t m n → r ≡ behind (length m) at n → Placed l at t m r
-placed_wrote {l} {t} {m} {at} {n} w e = placed_by w.now (e ∙ ap (behind (length m) at) w.size)
 
 natural_held : {z : ℤ} {k : ℕ} → SFits w64 z → k ≡ natural (held z) → k ≡ natural z
 natural_held f e = e ∙ ap natural (to_z-of_z f)
 
 module _ {z : ℤ} (f : SFits w64 z) where
-  pub path_put : {l m n : List ℕ} {at i k w r : ℕ} → Placed l at (0x9 ∷ []) m i → k ≡ natural (held z) → Wrote m i (path_text_at k) n w → r ≡ behind (length n) i w → Placed l at (0x9 ∷ path_text_at (natural z)) n r
-  path_put p e w b = placed_then p (placed_as (ap path_text_at (natural_held f e)) (placed_wrote w b))
+  pub path_put : {s b : List ℕ} {l m n : Line} {k : ℕ} → Puts (0x9 ∷ []) l m → k ≡ natural (held z) → s ≡ path_text_at k → b ≡ s → Puts b m n → Puts (0x9 ∷ path_text_at (natural z)) l n
+  path_put p e c d q = puts_then p (puts_as (d ∙ c ∙ ap path_text_at (natural_held f e)) q)
 
-  pub index_none : (l : List ℕ) (at : ℕ) → lt_z (held z) (pos 0) ≡ true → Placed l at (bracketed z) l at
+  pub index_none : (l : Line) → lt_z (held z) (pos 0) ≡ true → Puts (bracketed z) l l
   unfolding bracketed
-  index_none l at e = placed_as (sym (ap bracketed (below f e).1)) (placed_none l at)
+  index_none l e = puts_as (sym (ap bracketed (below f e).1)) (puts_none l)
 
   pub index_put :
-      {l l' l'' m : List ℕ} {at i j r k : ℕ} → lt_z (held z) (pos 0) ≡ false → Placed l at (0x5B ∷ []) l' i → k ≡ nat_abs (held z) → Placed l' i (decimal k) l'' j → Placed l'' j (0x5D ∷ []) m r →
-      Placed l at (bracketed z) m r
+      {l m n o : Line} {k : ℕ} → lt_z (held z) (pos 0) ≡ false → Puts (0x5B ∷ []) l m → k ≡ nat_abs (held z) → Puts (decimal k) m n → Puts (0x5D ∷ []) n o → Puts (bracketed z) l o
   unfolding bracketed bytes encode
-  index_put {k = k} e p n d q =
-      let h : k ≡ (above f e).0 = n ∙ ap nat_abs (to_z-of_z f ∙ (above f e).1) in
-      placed_as (rw h (sym (ap bracketed (above f e).1))) (placed_then (placed_then p d) q)
+  index_put {k = k} e p c d q =
+      let h : k ≡ (above f e).0 = c ∙ ap nat_abs (to_z-of_z f ∙ (above f e).1) in
+      puts_as (rw h (sym (ap bracketed (above f e).1))) (puts_then (puts_then p d) q)
 
   -- a term with its group, or alone
-  pub group_none : (g : List ℕ) {l m : List ℕ} {at w : ℕ} → Wrote l at g m w → w ≡ 0 → Placed l at (group_text g z) m at
-  unfolding group_text
-  group_none [] {l} {m} {at} p e = record { now = p.now; end = (placed_none l at).end }
-  group_none (b ∷ g) {l} {m} {at} {w} p e = absurd (omega (arith, p.size))
+  module _ {g s : List ℕ} {r : Bool} (c : s ≡ g) (e : r ≡ eqb (length s) 0) where
+    pub group_none : (l : Line) → r ≡ true → Puts (group_text g z) l l
+    unfolding group_text
+    group_none l h = puts_as (rw (← c, ← e, h)) (puts_none l)
 
-  pub group_put :
-      {g l m n o : List ℕ} {at i j r w : ℕ} → Wrote l at g m w → (w ≡ 0 → ⊥) → i ≡ behind (length m) at w → Placed m i (bracketed (held z)) n j → Placed n j (0x2F ∷ []) o r →
-      Placed l at (group_text g z) o r
-  unfolding group_text bytes encode
-  group_put {g} {w = w} p e b q s =
-      let h : eqb (length g) 0 ≡ false = ap (λ (n : ℕ). eqb n 0) (sym p.size) ∙ ne_eqb w 0 e in
-      rw h (placed_then (placed_then (placed_wrote p b) (placed_as (ap bracketed (to_z-of_z f)) q)) s)
+    pub group_put : {b : List ℕ} {l m n o : Line} → r ≡ false → b ≡ s → Puts b l m → Puts (bracketed (held z)) m n → Puts (0x2F ∷ []) n o → Puts (group_text g z) l o
+    unfolding group_text bytes encode
+    group_put h d p q i = rw (← c, ← e, h, ← d) (puts_then (puts_then p (puts_as (ap bracketed (to_z-of_z f)) q)) i)
 
-  pub term_put : (g : List ℕ) {t l m n : List ℕ} {at i r w : ℕ} → Placed l at (group_text g (held z)) m i → Wrote m i t n w → r ≡ behind (length n) i w → Placed l at (term_text g z t) n r
+  pub term_put : (g : List ℕ) {t s b : List ℕ} {l m n : Line} → Puts (group_text g (held z)) l m → s ≡ t → b ≡ s → Puts b m n → Puts (term_text g z t) l n
   unfolding term_text
-  term_put g p q b = placed_then (placed_as (ap (group_text g) (to_z-of_z f)) p) (placed_wrote q b)
+  term_put g p c d q = puts_then (puts_as (ap (group_text g) (to_z-of_z f)) p) (puts_as (d ∙ c) q)
 
-module _ {a b : ℤ} (f : SFits w64 a) (g : SFits w64 b) {k : ℕ} (e : k ≡ natural (held a)) {l m n : List ℕ} {at i r : ℕ} (p : Placed l at (0x9 ∷ []) m i) where
-  pub term_none : k ≡ 0 → Placed m i (0x2D ∷ []) n r → Placed l at (0x9 ∷ field (term_shown (natural a) b)) n r
+module _ {a b : ℤ} (f : SFits w64 a) (g : SFits w64 b) {k : ℕ} (e : k ≡ natural (held a)) {l m n : Line} (p : Puts (0x9 ∷ []) l m) where
+  pub term_none : k ≡ 0 → Puts (0x2D ∷ []) m n → Puts (0x9 ∷ field (term_shown (natural a) b)) l n
   unfolding term_shown field bytes encode
-  term_none h q = rw (← natural_held f e, eq-eqb k 0 h) (placed_then p q)
+  term_none h q = rw (← natural_held f e, eq-eqb k 0 h) (puts_then p q)
 
-  pub term_there : (k ≡ 0 → ⊥) → Placed m i (term_text (term_group_at k) (held b) (term_name_at k)) n r → Placed l at (0x9 ∷ field (term_shown (natural a) b)) n r
+  pub term_there : (k ≡ 0 → ⊥) → Puts (term_text (term_group_at k) (held b) (term_name_at k)) m n → Puts (0x9 ∷ field (term_shown (natural a) b)) l n
   unfolding term_shown field
-  term_there h q = rw (← natural_held f e, ne_eqb k 0 h) (placed_then p (rw (to_z-of_z g) at q))
+  term_there h q = rw (← natural_held f e, ne_eqb k 0 h) (puts_then p (rw (to_z-of_z g) at q))
 
 -- an unmapped element's path
 pub unmapped_put :
-    {p a b : ℤ} → SFits w64 p → SFits w64 a → SFits w64 b → (x : List ℕ) {t l m n o q : List ℕ} {at i j u r k w s e : ℕ} → Placed l at (0x9 ∷ []) m i → k ≡ natural (held p) → Wrote m i (parent_name_at k) n w →
-    j ≡ behind (length n) i w → Placed n j (0x2F ∷ []) o u → s ≡ natural (held a) → e ≡ natural (held b) → t ≡ clipped x s e → Placed o u (printable t) q r →
-    Placed l at (0x9 ∷ unmapped_path (natural p) (name_shown x a b)) q r
+    {p a b : ℤ} → SFits w64 p → SFits w64 a → SFits w64 b → (x : List ℕ) {t u v : List ℕ} {l m n o q : Line} {k s e : ℕ} → Puts (0x9 ∷ []) l m → k ≡ natural (held p) → u ≡ parent_name_at k → v ≡ u → Puts v m n →
+    Puts (0x2F ∷ []) n o → s ≡ natural (held a) → e ≡ natural (held b) → t ≡ clipped x s e → Puts (printable t) o q →
+    Puts (0x9 ∷ unmapped_path (natural p) (name_shown x a b)) l q
 unfolding unmapped_path name_shown bytes encode
-unmapped_put f g h x d c y v z start end cut name =
-    rw (← natural_held f c, ← natural_held g start, ← natural_held h end, ← cut) (placed_then (placed_then (placed_then d (placed_wrote y v)) z) name)
+unmapped_put f g h x d c i j y z start end cut name =
+    rw (← natural_held f c, ← natural_held g start, ← natural_held h end, ← cut, ← i, ← j) (puts_then (puts_then (puts_then d y) z) name)

@@ -1,9 +1,8 @@
-// The fields of the lines of a printed reading that show a path or a term by its number, put as bytes into
-// a lent list (document 01, "The printed reading").
+// The fields of the lines of a printed reading that show a path or a term by its number, put behind what
+// was put into the line before (document 01, "The printed reading").
 //
-// Every function puts bytes from a place on, each where there is room, and answers where the next go. It
-// takes all numbers and lists of any length, so no public function has a `requires`. The crate assumes
-// nothing of its own.
+// All functions take all numbers and lists of any length, so no public function has a `requires`. The crate
+// assumes nothing of its own.
 #![tactic(auto)]
 
 mod label;

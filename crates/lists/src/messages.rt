@@ -112,7 +112,7 @@ The number of an entry's message, what it means, and the kind, rule and hint tha
 ",
     )?;
     for (message, columns) in &ROWS {
-        print_cell(rt, message.number())?;
+        print_cell(rt, u32::from(*message))?;
         print!(rt; "{columns} |\n")?;
     }
     print_required(rt)

@@ -12,9 +12,5 @@ The number of an entry's path, and the path as the Rust prints it, without the n
 |---|---|
 ",
     )?;
-    print_rows(
-        rt,
-        |space, number| labels::put_path_text(space, 0, number),
-        |_| Ok(()),
-    )
+    print_rows(rt, |number| labels::path_text(number), |_| Ok(()))
 }

@@ -1,17 +1,16 @@
 // docs/TERMS.md.
-use crate::output::{print_front, print_rows};
+use crate::output::print_rows;
 use names::Term;
 use std::io;
 
 // Prints the group of a term, with an index unless it is BG-22, which is there once.
 fn print_group(rt: &impl Print, number: u32) -> io::Result<()> {
-    let mut space = [0u8; 4096];
-    let n = labels::put_group_name(&mut space, 0, number as usize);
-    if n == 0 {
+    let group = labels::group_name(number as usize);
+    if group.is_empty() {
         return Ok(());
     }
-    print_front(rt, &space, n)?;
-    if number > Term::Bt115.number() {
+    rt.print(group)?;
+    if number > u32::from(Term::Bt115) {
         rt.print("[i]")?;
     }
     rt.print("/")
@@ -29,7 +28,7 @@ The number of an entry's term, and the term as the Rust prints it, where i is th
     )?;
     print_rows(
         rt,
-        |space, number| labels::put_term_name(space, 0, number),
+        |number| labels::term_name(number),
         |number| print_group(rt, number),
     )
 }

@@ -4,26 +4,22 @@ use mathlib.Core.Bool.{Bool, true, false, cond, not, ◌&&◌, true≢false}
 use mathlib.Core.List.{List, [], ◌∷◌, ◌++◌, map, append_assoc, append-nil}
 use mathlib.Core.Option.{Option, none, some}
 use Prim.Native.Nat.{ℕ, zero, suc, ◌+◌, ◌<◌, ◌^◌}
-use native.Mathlib.Omega.{arith}
-use borrow.Author.Tests.{le-leb, eq-eqb, ne_eqb}
+use borrow.Author.Tests.{eq-eqb, ne_eqb}
 use lib.Dec.{eqb}
 use lib.IntN.{ℤ, pos, negsuc}
-use lib.Signed.{mag, le_z}
+use lib.Signed.{mag}
 use lib.ListN.{length, get_or, drop}
 use Rattle.std.proofs.lemmas.List.{get_or-map}
-use mir.Syntax.{w64}
-use mir.Val.{SFits}
-use mir.Facts.{to_z-of_z}
 use Rattle.text.specs.Utf8.{bytes}
 use Rattle.labels.specs.PathText.{path_text_at}
 use Rattle.report.specs.Columns.{Column, text, plain, amount, percent, date, held_columns}
-use Rattle.report.specs.Placed.{Placed}
 use Rattle.report.proofs.Cells.{carried}
-use Rattle.report.proofs.Placing.{placed_none, placed_then}
 use Rattle.settlement.specs.Document.{maybe}
 use Rattle.settlement.specs.Summation.{is_none}
 use Rattle.decimals.specs.Decimal.{decimal, signed, natural}
-use Rattle.decimals.proofs.Putting.{placed_as}
+use Rattle.decimals.specs.Puts.{Puts}
+use Rattle.decimals.specs.declared.line.Line.{Line}
+use Rattle.decimals.proofs.Putting.{puts_none, puts_then, puts_as}
 use Rattle.decimals.proofs.Signs.{held}
 use Rattle.fields.specs.Line.{field, tabbed, line}
 use Rattle.fields.specs.Columns.{cell, text_shown, amount_shown, percent_shown, date_shown, shown, fields}
@@ -34,15 +30,15 @@ use Rattle.printed.specs.declared.term.Term.{Term}
 use Rattle.printed.specs.Tables.{group_of, term_of}
 
 -- a word, fields and a line feed
-pub line_put : {l m n o w f : List ℕ} {at i j r : ℕ} → Placed l at w m i → Placed m i f n j → Placed n j (0xA ∷ []) o r → Placed l at (w ++ f ++ 0xA ∷ []) o r
-line_put p q s = placed_then (placed_then p q) s
+pub line_put : {w f : List ℕ} {l m n o : Line} → Puts w l m → Puts f m n → Puts (0xA ∷ []) n o → Puts (w ++ f ++ 0xA ∷ []) l o
+line_put p q s = puts_then (puts_then p q) s
 
 -- a held row, its columns being known
 pub held_put :
-    (x : List ℕ) (row : List ℤ) {k : ℕ} {cs : List Column} {l m : List ℕ} {r : ℕ} → k ≡ natural (cell row 0) → cs ≡ held_columns k → Placed l 0 (line "held" (fields x cs row)) m r →
-    Placed l 0 (held_numbers x row) m r
+    (x : List ℕ) (row : List ℤ) {k : ℕ} {cs : List Column} {l m : Line} → k ≡ natural (cell row 0) → cs ≡ held_columns k → Puts (line "held" (fields x cs row)) l m →
+    Puts (held_numbers x row) l m
 unfolding held_numbers
-held_put x row e f p = placed_as (ap (λ (cs : List Column). line "held" (fields x cs row)) (f ∙ ap held_columns e)) p
+held_put x row e f p = puts_as (ap (λ (cs : List Column). line "held" (fields x cs row)) (f ∙ ap held_columns e)) p
 
 pub kind_other : (k : ℕ) → (k ≡ 1 → ⊥) → (k ≡ 2 → ⊥) → (k ≡ 3 → ⊥) → (k ≡ 4 → ⊥) → (k ≡ 5 → ⊥) → plain ∷ [] ≡ held_columns k
 unfolding held_columns
@@ -55,66 +51,45 @@ kind_other (suc (suc (suc (suc (suc zero))))) a b c d e = absurd (e refl)
 kind_other (suc (suc (suc (suc (suc (suc k)))))) a b c d e = refl
 
 -- the parts of an entry
-pub path_put : {z y : ℤ} {l m : List ℕ} {at r : ℕ} → mag z < 2 ^ 63 → z ≡ y → Placed l at (0x9 ∷ path_text_at (natural (held z))) m r → Placed l at (0x9 ∷ path_text_at (natural y)) m r
+pub path_put : {z y : ℤ} {l m : Line} → mag z < 2 ^ 63 → z ≡ y → Puts (0x9 ∷ path_text_at (natural (held z))) l m → Puts (0x9 ∷ path_text_at (natural y)) l m
 path_put f e p = rw (carried f e) at p
 
 pub term_put :
-    {z y a b : ℤ} {l m : List ℕ} {at r : ℕ} → mag z < 2 ^ 63 → z ≡ y → mag a < 2 ^ 63 → a ≡ b → Placed l at (0x9 ∷ field (term_shown (natural (held z)) (held a))) m r →
-    Placed l at (0x9 ∷ field (term_shown (natural y) b)) m r
+    {z y a b : ℤ} {l m : Line} → mag z < 2 ^ 63 → z ≡ y → mag a < 2 ^ 63 → a ≡ b → Puts (0x9 ∷ field (term_shown (natural (held z)) (held a))) l m →
+    Puts (0x9 ∷ field (term_shown (natural y) b)) l m
 term_put f e g h p = rw (carried f e, carried g h) at p
-
-pub start_put :
-    (x : List ℕ) (row : List ℤ) {l m n o : List ℕ} {i j r : ℕ} → Placed l 0 (bytes "entry") m i → Placed m i (0x9 ∷ field (shown x plain row)) n j →
-    Placed n j (0x9 ∷ path_text_at (natural (cell row 1))) o r → Placed l 0 (bytes "entry" ++ 0x9 ∷ signed (cell row 0) ++ 0x9 ∷ path_text_at (natural (cell row 1))) o r
-unfolding shown field
-start_put x row p q s = placed_then (placed_then p q) s
 
 regrouped : (e s p t v : List ℕ) → (((e ++ s) ++ p) ++ t) ++ v ≡ e ++ (s ++ (p ++ (t ++ (v ++ []))))
 regrouped e s p t v = simp (append_assoc, append-nil)
 
 pub entry_put :
-    (x : List ℕ) (row : List ℤ) {l m n o q : List ℕ} {i j k r : ℕ} → Placed l 0 (bytes "entry" ++ 0x9 ∷ signed (cell row 0) ++ 0x9 ∷ path_text_at (natural (cell row 1))) m i →
-    Placed m i (0x9 ∷ field (term_shown (natural (cell row 2)) (cell row 3))) n j → Placed n j (0x9 ∷ field (shown x text (drop 4 row))) o k → Placed o k (0xA ∷ []) q r → Placed l 0 (entry_numbers x row) q r
-unfolding entry_numbers line tabbed
-entry_put x row a b c d =
-    placed_as
+    (x : List ℕ) (row : List ℤ) {l m n o q r s : Line} → Puts (bytes "entry") l m → Puts (0x9 ∷ field (shown x plain row)) m n → Puts (0x9 ∷ path_text_at (natural (cell row 1))) n o →
+    Puts (0x9 ∷ field (term_shown (natural (cell row 2)) (cell row 3))) o q → Puts (0x9 ∷ field (shown x text (drop 4 row))) q r → Puts (0xA ∷ []) r s → Puts (entry_numbers x row) l s
+unfolding entry_numbers line tabbed shown field
+entry_put x row a b c d e f =
+    puts_as
     (ap (λ (s : List ℕ). s ++ (0xA ∷ []))
     (regrouped (bytes "entry") (0x9 ∷ signed (cell row 0)) (0x9 ∷ path_text_at (natural (cell row 1))) (0x9 ∷ field (term_shown (natural (cell row 2)) (cell row 3))) (0x9 ∷ field (shown x text (drop 4 row)))))
-    (placed_then (placed_then (placed_then a b) c) d)
+    (puts_then (puts_then (puts_then (puts_then (puts_then a b) c) d) e) f)
 
 -- an unmapped element
-pub element_put :
-    (x : List ℕ) {z y a b c d : ℤ} {l m : List ℕ} {at r : ℕ} → mag z < 2 ^ 63 → z ≡ y → mag a < 2 ^ 63 → a ≡ b → mag c < 2 ^ 63 → c ≡ d →
-    Placed l at (0x9 ∷ unmapped_path (natural (held z)) (name_shown x (held a) (held c))) m r → Placed l at (0x9 ∷ unmapped_path (natural y) (name_shown x b d)) m r
-element_put x f e g h i j p = rw (carried f e, carried g h, carried i j) at p
-
 pub unmapped_put :
-    (x : List ℕ) (row : List ℤ) {l m n o : List ℕ} {i j r : ℕ} → Placed l 0 (bytes "unmapped") m i →
-    Placed m i (0x9 ∷ unmapped_path (natural (cell row 0)) (name_shown x (cell row 1) (cell row 2))) n j → Placed n j (0xA ∷ []) o r → Placed l 0 (unmapped_numbers x row) o r
+    (x : List ℕ) (row : List ℤ) {l m n o : Line} → Puts (bytes "unmapped") l m →
+    Puts (0x9 ∷ unmapped_path (natural (cell row 0)) (name_shown x (cell row 1) (cell row 2))) m n → Puts (0xA ∷ []) n o → Puts (unmapped_numbers x row) l o
 unfolding unmapped_numbers line tabbed
-unmapped_put x row a b c = placed_as (simp (append_assoc, append-nil)) (placed_then (placed_then a b) c)
+unmapped_put x row a b c = puts_as (simp (append_assoc, append-nil)) (puts_then (puts_then a b) c)
 
 -- a group
 module _ (a : List ℤ) (n p : ℕ) {k : ℕ} (e : k ≡ natural (cell a p)) where
-  pub group_none : (l : List ℕ) → k ≡ 0 → Placed l 0 (group_numbers a (group n p)) l 0
+  pub group_none : (l : Line) → k ≡ 0 → Puts (group_numbers a (group n p)) l l
   unfolding group_numbers
-  group_none l h = placed_as (rw (← e, eq-eqb k 0 h)) (placed_none l 0)
+  group_none l h = puts_as (rw (← e, eq-eqb k 0 h)) (puts_none l)
 
-  pub group_put :
-      {l m v o : List ℕ} {i j r : ℕ} → (k ≡ 0 → ⊥) → Placed l 0 (bytes "group" ++ 0x9 ∷ bytes "BG-") m i → Placed m i (decimal n) v j → Placed v j (0xA ∷ []) o r →
-      Placed l 0 (group_numbers a (group n p)) o r
+  pub group_put : {l m o q : Line} → (k ≡ 0 → ⊥) → Puts (bytes "group" ++ 0x9 ∷ bytes "BG-") l m → Puts (decimal n) m o → Puts (0xA ∷ []) o q → Puts (group_numbers a (group n p)) l q
   unfolding group_numbers line tabbed
-  group_put h x y z = placed_as (rw (← e, ne_eqb k 0 h) (simp (append_assoc, append-nil))) (placed_then (placed_then x y) z)
+  group_put h x y z = puts_as (rw (← e, ne_eqb k 0 h) (simp (append_assoc, append-nil))) (puts_then (puts_then x y) z)
 
 -- whether the numbers of a column show something
-module _ {z : ℤ} (f : SFits w64 z) where
-  pub natural_sign : le_z (pos 0) (held z) ≡ is_natural z
-  natural_sign = rw (to_z-of_z f) (go z)
-    where
-      go : (y : ℤ) → le_z (pos 0) y ≡ is_natural y
-      go (pos n) = le-leb 0 n (omega arith)
-      go (negsuc n) = refl
-
 pub both_true : {p q a b : Bool} → p ≡ a → p ≡ true → q ≡ b → q ≡ (a && b)
 both_true e t f = rw (← e, t, ← f)
 
@@ -175,47 +150,47 @@ module _ (x : List ℕ) (c : Column) (a : List ℤ) (p : ℕ) {v : List ℤ} {b 
 
 -- a scheme
 module _ (x : List ℕ) (a : List ℤ) (n p : ℕ) {b : Bool} (e : b ≡ has_scheme n) where
-  pub scheme_not : (l : List ℕ) (at : ℕ) → b ≡ false → Placed l at (tabbed (maybe [] (λ t. t ∷ []) (scheme_shown x a n p))) l at
+  pub scheme_not : (l : Line) → b ≡ false → Puts (tabbed (maybe [] (λ t. t ∷ []) (scheme_shown x a n p))) l l
   unfolding scheme_shown tabbed
-  scheme_not l at h = placed_as (rw (← e, h)) (placed_none l at)
+  scheme_not l h = puts_as (rw (← e, h)) (puts_none l)
 
   module _ {v : List ℤ} {d : Bool} (h : b ≡ true) (w : v ≡ drop (p + 2) a) (i : d ≡ is_shown text v) where
     scheme_is : scheme_shown x a n p ≡ shown x text (drop (p + 2) a)
     unfolding scheme_shown
     scheme_is = rw (← e, h)
 
-    pub scheme_absent : (l : List ℕ) (at : ℕ) → d ≡ false → Placed l at (tabbed (maybe [] (λ t. t ∷ []) (scheme_shown x a n p))) l at
+    pub scheme_absent : (l : Line) → d ≡ false → Puts (tabbed (maybe [] (λ t. t ∷ []) (scheme_shown x a n p))) l l
     unfolding tabbed
-    scheme_absent l at j = placed_as (rw (scheme_is, not_there x text a (p + 2) w i j)) (placed_none l at)
+    scheme_absent l j = puts_as (rw (scheme_is, not_there x text a (p + 2) w i j)) (puts_none l)
 
     pub scheme_put :
-        {l m : List ℕ} {at r : ℕ} → d ≡ true → Placed l at (0x9 ∷ field (shown x text (drop (p + 2) a))) m r → Placed l at (tabbed (maybe [] (λ t. t ∷ []) (scheme_shown x a n p))) m r
+        {l m : Line} → d ≡ true → Puts (0x9 ∷ field (shown x text (drop (p + 2) a))) l m → Puts (tabbed (maybe [] (λ t. t ∷ []) (scheme_shown x a n p))) l m
     unfolding tabbed
     scheme_put j q =
-        placed_as (sym (append-nil _) ∙ ap (λ (y : Option (List ℕ)). tabbed (maybe [] (λ t. t ∷ []) y)) (sym (scheme_is ∙ there_is x text a (p + 2) w i j))) q
+        puts_as (sym (append-nil _) ∙ ap (λ (y : Option (List ℕ)). tabbed (maybe [] (λ t. t ∷ []) y)) (sym (scheme_is ∙ there_is x text a (p + 2) w i j))) q
 
 -- a term
 term_regrouped : (t b d f s : List ℕ) → (((t ++ b) ++ d) ++ f) ++ s ≡ t ++ ((b ++ d) ++ (f ++ s))
 term_regrouped t b d f s = simp append_assoc
 
 module _ (x : List ℕ) (a : List ℤ) (n p : ℕ) (c : Column) {v : List ℤ} {b : Bool} (w : v ≡ drop p a) (e : b ≡ is_shown c v) where
-  pub term_absent : (l : List ℕ) → b ≡ false → Placed l 0 (term_numbers x a (term n c p)) l 0
+  pub term_absent : (l : Line) → b ≡ false → Puts (term_numbers x a (term n c p)) l l
   unfolding term_numbers term_with
-  term_absent l h = placed_as (sym (ap (λ (y : Option (List ℕ)). term_with n y (scheme_shown x a n p)) (not_there x c a p w e h))) (placed_none l 0)
+  term_absent l h = puts_as (sym (ap (λ (y : Option (List ℕ)). term_with n y (scheme_shown x a n p)) (not_there x c a p w e h))) (puts_none l)
 
   pub term_line_put :
-      {l m o u w : List ℕ} {i j k r : ℕ} → b ≡ true → Placed l 0 (bytes "term" ++ 0x9 ∷ bytes "BT-" ++ decimal n) m i → Placed m i (0x9 ∷ field (shown x c (drop p a))) o j →
-      Placed o j (tabbed (maybe [] (λ t. t ∷ []) (scheme_shown x a n p))) u k → Placed u k (0xA ∷ []) w r → Placed l 0 (term_numbers x a (term n c p)) w r
+      {l m o q r s : Line} → b ≡ true → Puts (bytes "term" ++ 0x9 ∷ bytes "BT-") l m → Puts (decimal n) m o → Puts (0x9 ∷ field (shown x c (drop p a))) o q →
+      Puts (tabbed (maybe [] (λ t. t ∷ []) (scheme_shown x a n p))) q r → Puts (0xA ∷ []) r s → Puts (term_numbers x a (term n c p)) l s
   unfolding term_numbers term_with line tabbed
-  term_line_put h q s t z =
-      placed_as
+  term_line_put h y d s t z =
+      puts_as
       (ap (λ (s : List ℕ). s ++ (0xA ∷ [])) (term_regrouped (bytes "term") (0x9 ∷ bytes "BT-") (decimal n) (0x9 ∷ field (shown x c (drop p a))) (tabbed (maybe [] (λ t. t ∷ []) (scheme_shown x a n p)))) ∙
       ap (λ (y : Option (List ℕ)). term_with n y (scheme_shown x a n p)) (sym (there_is x c a p w e h)))
-      (placed_then (placed_then (placed_then q s) t) z)
+      (puts_then (puts_then (puts_then (puts_then y d) s) t) z)
 
 -- groups and terms by the tables of the code
-pub group_known : (a : List ℤ) (k : ℕ) (d : Group) (gs : List Group) {l m : List ℕ} {r : ℕ} → map group_of gs ≡ groups → k < length gs → Placed l 0 (group_numbers a (group_of (get_or gs k d))) m r → Placed l 0 (group_numbers a (get_or groups k (group 0 0))) m r
-group_known a k d gs e h p = placed_as (ap (group_numbers a) (sym (get_or-map group_of gs k d (group 0 0) h) ∙ ap (λ (l : List GroupAt). get_or l k (group 0 0)) e)) p
+pub group_known : (a : List ℤ) (k : ℕ) (d : Group) (gs : List Group) {l m : Line} → map group_of gs ≡ groups → k < length gs → Puts (group_numbers a (group_of (get_or gs k d))) l m → Puts (group_numbers a (get_or groups k (group 0 0))) l m
+group_known a k d gs e h p = puts_as (ap (group_numbers a) (sym (get_or-map group_of gs k d (group 0 0) h) ∙ ap (λ (l : List GroupAt). get_or l k (group 0 0)) e)) p
 
-pub term_known : (x : List ℕ) (a : List ℤ) (k : ℕ) (d : Term) (ts : List Term) {l m : List ℕ} {r : ℕ} → map term_of ts ≡ terms → k < length ts → Placed l 0 (term_numbers x a (term_of (get_or ts k d))) m r → Placed l 0 (term_numbers x a (get_or terms k (term 0 plain 0))) m r
-term_known x a k d ts e h p = placed_as (ap (term_numbers x a) (sym (get_or-map term_of ts k d (term 0 plain 0) h) ∙ ap (λ (l : List TermAt). get_or l k (term 0 plain 0)) e)) p
+pub term_known : (x : List ℕ) (a : List ℤ) (k : ℕ) (d : Term) (ts : List Term) {l m : Line} → map term_of ts ≡ terms → k < length ts → Puts (term_numbers x a (term_of (get_or ts k d))) l m → Puts (term_numbers x a (get_or terms k (term 0 plain 0))) l m
+term_known x a k d ts e h p = puts_as (ap (term_numbers x a) (sym (get_or-map term_of ts k d (term 0 plain 0) h) ∙ ap (λ (l : List TermAt). get_or l k (term 0 plain 0)) e)) p

@@ -1,10 +1,11 @@
 -- The lines made of rows are those of what the rows hold.
-use mathlib.Core.Path.{◌≡◌}
+use mathlib.Core.Path.{◌≡◌, refl}
 use mathlib.Core.List.{List}
-use mathlib.Core.Option.{Option}
+use mathlib.Core.Option.{Option, none, some}
 use Prim.Native.Nat.{ℕ}
 use Rattle.names.specs.declared.term.Term.{Term}
-use Rattle.names.specs.Term.{term_number}
+use Rattle.names.specs.Term.{maybe_term_number}
+use Rattle.names.proofs.Numbers.{term_counted}
 use Rattle.labels.proofs.OwnTexts.{path-text, term-group, term-name, parent-name}
 use Rattle.report.specs.Rows.{Place, Entry, Held, transfer, vat, allowance, charge, preceding, Unmapped, map_entry, map_transfer, map_vat, map_allowance_charge, map_preceding, map_held, map_unmapped}
 use Rattle.report.specs.Columns.{held_columns}
@@ -20,9 +21,10 @@ use Rattle.printed.specs.Numbers.{held_numbers, entry_numbers, unmapped_numbers}
 use Rattle.printed.proofs.Values.{place_shown, text-shown, amount-shown, percent-shown, date-shown}
 
 -- a term by its number is the term
-term-shown : (t : Term) (index : Option ℕ) → field (term_shown (term_number t) (or_absent index)) ≡ term_field t index
+term-shown : (t : Option Term) (index : Option ℕ) → field (term_shown (maybe_term_number t) (or_absent index)) ≡ term_field t index
 unfolding term_field term_shown
-term-shown t index = rw (term-group t, term-name t)
+term-shown none index = refl
+term-shown (some t) index = rw (term_counted t, term-group t, term-name t)
 
 module _ (x : List ℕ) where
   pub held-line : (h : Held Place) → held_numbers x (held_row h) ≡ held_line (map_held (shows x) h)

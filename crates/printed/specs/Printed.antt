@@ -1,12 +1,11 @@
 -- The printed reading (document 01, "The printed reading"): the lines of an outcome, over what the places of its texts show.
-use Rattle.std.specs.Prelude.{Bool, true, false, cond, not, ℕ, eqb, ℤ, length}
+use Rattle.std.specs.Prelude.{Bool, true, false, cond, not, ℕ, ℤ, length}
 use mathlib.Core.List.{List, [], ◌∷◌, ◌++◌, map, flatten}
 use Rattle.std.proofs.Math.Option
 use Rattle.std.proofs.Math.Option.{Option, none, some}
 use Rattle.text.specs.Utf8.{bytes}
 use Rattle.names.specs.Message.{message_number}
 use Rattle.names.specs.declared.term.Term.{Term}
-use Rattle.names.specs.Term.{term_number}
 use Rattle.labels.specs.PathText.{path_text}
 use Rattle.labels.specs.TermName.{term_group, term_name}
 use Rattle.labels.specs.ParentName.{parent_name}
@@ -168,8 +167,8 @@ held_line (charge a) = allowance_charge_line 4 a
 held_line (preceding p) = line "held" (decimal 5 ∷ printable p.reference ∷ date_field p.date ∷ [])
 
 -- a term with its group and the group's index, `-` for no term
-unfoldable pub term_field : Term → Option ℕ → List ℕ
-term_field t index = field (cond (eqb (term_number t) 0) none (some (term_text (bytes (term_group t)) (or_absent index) (bytes (term_name t)))))
+unfoldable pub term_field : Option Term → Option ℕ → List ℕ
+term_field t index = field (Option.map (λ t. term_text (bytes (term_group t)) (or_absent index) (bytes (term_name t))) t)
 
 -- "`entry` with message, path, term, value"
 unfoldable pub entry_line : Entry (List ℕ) → List ℕ

@@ -1,10 +1,10 @@
 // The lines of groups.
-ghost use Rattle.report.specs.Placed.{Placed};
+ghost use Rattle.decimals.specs.Puts.{Puts};
 ghost use Rattle.printed.specs.Numbers.{group_numbers};
 ghost use Rattle.printed.specs.Tables.{group_of};
 
 use crate::count::count_at;
-use decimals::{put_bytes, put_decimal};
+use decimals::Line;
 
 // A group: its number, and where the answer says whether it is present.
 #[derive(Clone, Copy)]
@@ -19,14 +19,14 @@ pub(crate) const GROUPS: [Group; 5] = [
     Group(19, 42),
 ];
 
-// Puts the line of a group, nothing where it is absent, at the front, and answers where it ends.
-pub(crate) fn put_group(out: &mut [u8], answer: &[i64], group: Group) -> usize
-    ensures { Placed out.old 0 (group_numbers answer.now (group_of group)) out.new result }
+// Puts the line of a group, nothing where it is absent.
+pub(crate) fn put_group(line: &mut Line, answer: &[i64], group: Group)
+    ensures { Puts (group_numbers answer.now (group_of group)) line.old line.new }
 {
     if count_at(answer, group.1 as usize) == 0 {
-        return 0;
+        return;
     }
-    let next = put_bytes(out, 0, b"group\tBG-");
-    let end = put_decimal(out, next, group.0 as u64);
-    put_bytes(out, end, b"\n")
+    line.put_bytes(b"group\tBG-");
+    line.put_decimal(group.0 as u64);
+    line.put_byte(b'\n');
 }

@@ -4,15 +4,15 @@ ghost use Rattle.std.specs.Prelude.{◌≡◌, [], ◌∷◌, ◌++◌, drop, ma
 ghost use Rattle.text.specs.Utf8.{bytes};
 ghost use Rattle.labels.specs.PathText.{path_text_at};
 ghost use Rattle.report.specs.Columns.{held_columns};
-ghost use Rattle.report.specs.Placed.{Placed};
 ghost use Rattle.decimals.specs.Decimal.{signed, natural};
+ghost use Rattle.decimals.specs.Puts.{Puts};
 ghost use Rattle.fields.specs.Line.{field, tabbed};
 ghost use Rattle.fields.specs.Columns.{column_of, cell, fields};
 ghost use Rattle.lines.specs.Labels.{term_shown, unmapped_path, name_shown};
 ghost use Rattle.printed.specs.Numbers.{accepted_line, refused_line, held_numbers, entry_numbers, unmapped_numbers};
 
 use crate::count::count_at;
-use decimals::put_bytes;
+use decimals::Line;
 use fields::Column::{self, Amount, Date, Percent, Plain, Text};
 use fields::{number_at, put_field, put_fields};
 
@@ -27,35 +27,34 @@ const ALLOWANCE_CHARGE: [Column; 8] = [Plain, Plain, Amount, Percent, Text, Perc
 
 const PRECEDING: [Column; 3] = [Plain, Text, Date];
 
-// Puts a word, the fields of a row's numbers from a place on, one for each column, and a line feed. Like
-// every function here that puts a line it puts it at the front, and answers where it ends.
+// Puts a word, the fields of a row's numbers from a place on, one for each column, and a line feed.
 fn put_row_line(
-    out: &mut [u8],
+    line: &mut Line,
     word: &[u8],
     text: &[u8],
     columns: &[Column],
     row: &[i64],
     from: usize,
-) -> usize
-    ensures { Placed out.old 0 (word.now ++ tabbed (fields text.now (map column_of columns.now) (drop from row.now)) ++ 0xA ∷ []) out.new result }
+)
+    ensures { Puts (word.now ++ tabbed (fields text.now (map column_of columns.now) (drop from row.now)) ++ 0xA ∷ []) line.old line.new }
 {
-    let next = put_bytes(out, 0, word);
-    let end = put_fields(out, next, text, columns, row, from);
-    put_bytes(out, end, b"\n")
+    line.put_bytes(word);
+    put_fields(line, text, columns, row, from);
+    line.put_byte(b'\n');
 }
 
 // The three counts of a call that read.
-pub(crate) fn put_accepted(out: &mut [u8], text: &[u8], answer: &[i64]) -> usize
-    ensures { Placed out.old 0 (accepted_line text.now answer.now) out.new result }
+pub(crate) fn put_accepted(line: &mut Line, text: &[u8], answer: &[i64])
+    ensures { Puts (accepted_line text.now answer.now) line.old line.new }
 {
-    put_row_line(out, b"accepted", text, &[Plain, Plain, Plain], answer, 2)
+    put_row_line(line, b"accepted", text, &[Plain, Plain, Plain], answer, 2);
 }
 
 // The number and record of a refusal.
-pub(crate) fn put_refused(out: &mut [u8], text: &[u8], answer: &[i64]) -> usize
-    ensures { Placed out.old 0 (refused_line text.now answer.now) out.new result }
+pub(crate) fn put_refused(line: &mut Line, text: &[u8], answer: &[i64])
+    ensures { Puts (refused_line text.now answer.now) line.old line.new }
 {
-    put_row_line(out, b"refused", text, &[Plain, Plain], answer, 0)
+    put_row_line(line, b"refused", text, &[Plain, Plain], answer, 0);
 }
 
 // The columns of a held row of a kind.
@@ -74,64 +73,56 @@ fn columns_held(kind: usize) -> &'static [Column]
 }
 
 // What is held, by its kind.
-pub(crate) fn put_held(out: &mut [u8], text: &[u8], row: &[i64]) -> usize
-    ensures { Placed out.old 0 (held_numbers text.now row.now) out.new result }
+pub(crate) fn put_held(line: &mut Line, text: &[u8], row: &[i64])
+    ensures { Puts (held_numbers text.now row.now) line.old line.new }
 {
-    put_row_line(out, b"held", text, columns_held(count_at(row, 0)), row, 0)
+    put_row_line(line, b"held", text, columns_held(count_at(row, 0)), row, 0);
 }
 
-// The path of an entry, behind a tab, from a place on.
-fn put_path(out: &mut [u8], at: usize, row: &[i64]) -> usize
-    ensures { Placed out.old at (0x9 ∷ path_text_at (natural (cell row.now 1))) out.new result }
+// The path of an entry, behind a tab.
+fn put_path(line: &mut Line, row: &[i64])
+    ensures { Puts (0x9 ∷ path_text_at (natural (cell row.now 1))) line.old line.new }
 {
-    lines::put_path_field(out, at, number_at(row, 1))
+    lines::put_path_field(line, number_at(row, 1));
 }
 
 // Its term.
-fn put_term(out: &mut [u8], at: usize, row: &[i64]) -> usize
-    ensures { Placed out.old at (0x9 ∷ field (term_shown (natural (cell row.now 2)) (cell row.now 3))) out.new result }
+fn put_term(line: &mut Line, row: &[i64])
+    ensures { Puts (0x9 ∷ field (term_shown (natural (cell row.now 2)) (cell row.now 3))) line.old line.new }
 {
-    lines::put_term_field(out, at, number_at(row, 2), number_at(row, 3))
-}
-
-// Its message and its path, behind the line's word.
-fn put_entry_start(out: &mut [u8], text: &[u8], row: &[i64]) -> usize
-    ensures { Placed out.old 0 (bytes "entry" ++ 0x9 ∷ signed (cell row.now 0) ++ 0x9 ∷ path_text_at (natural (cell row.now 1))) out.new result }
-{
-    let message = put_bytes(out, 0, b"entry");
-    let path = put_field(out, message, text, Plain, row, 0);
-    put_path(out, path, row)
+    lines::put_term_field(line, number_at(row, 2), number_at(row, 3));
 }
 
 // An entry: message, path, term, value.
-pub(crate) fn put_entry(out: &mut [u8], text: &[u8], row: &[i64]) -> usize
-    ensures { Placed out.old 0 (entry_numbers text.now row.now) out.new result }
+pub(crate) fn put_entry(line: &mut Line, text: &[u8], row: &[i64])
+    ensures { Puts (entry_numbers text.now row.now) line.old line.new }
 {
-    let term = put_entry_start(out, text, row);
-    let value = put_term(out, term, row);
-    let end = put_field(out, value, text, Text, row, 4);
-    put_bytes(out, end, b"\n")
+    line.put_bytes(b"entry");
+    put_field(line, text, Plain, row, 0);
+    put_path(line, row);
+    put_term(line, row);
+    put_field(line, text, Text, row, 4);
+    line.put_byte(b'\n');
 }
 
-// The path of an unmapped element, behind a tab, from a place on.
-fn put_element(out: &mut [u8], at: usize, text: &[u8], row: &[i64]) -> usize
-    ensures { Placed out.old at (0x9 ∷ unmapped_path (natural (cell row.now 0)) (name_shown text.now (cell row.now 1) (cell row.now 2))) out.new result }
+// The path of an unmapped element, behind a tab.
+fn put_element(line: &mut Line, text: &[u8], row: &[i64])
+    ensures { Puts (0x9 ∷ unmapped_path (natural (cell row.now 0)) (name_shown text.now (cell row.now 1) (cell row.now 2))) line.old line.new }
 {
     lines::put_unmapped_field(
-        out,
-        at,
+        line,
         text,
         number_at(row, 0),
         number_at(row, 1),
         number_at(row, 2),
-    )
+    );
 }
 
 // An unmapped element: its path.
-pub(crate) fn put_unmapped(out: &mut [u8], text: &[u8], row: &[i64]) -> usize
-    ensures { Placed out.old 0 (unmapped_numbers text.now row.now) out.new result }
+pub(crate) fn put_unmapped(line: &mut Line, text: &[u8], row: &[i64])
+    ensures { Puts (unmapped_numbers text.now row.now) line.old line.new }
 {
-    let next = put_bytes(out, 0, b"unmapped");
-    let end = put_element(out, next, text, row);
-    put_bytes(out, end, b"\n")
+    line.put_bytes(b"unmapped");
+    put_element(line, text, row);
+    line.put_byte(b'\n');
 }

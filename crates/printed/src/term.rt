@@ -1,15 +1,15 @@
 // The lines of terms.
 ghost use Rattle.std.specs.Prelude.{◌≡◌, [], ◌∷◌, ◌++◌};
 ghost use Rattle.settlement.specs.Document.{maybe};
-ghost use Rattle.report.specs.Placed.{Placed};
 ghost use Rattle.text.specs.Utf8.{bytes};
 ghost use Rattle.decimals.specs.Decimal.{decimal};
+ghost use Rattle.decimals.specs.Puts.{Puts};
 ghost use Rattle.fields.specs.Line.{tabbed};
 ghost use Rattle.fields.specs.Columns.{column_of};
 ghost use Rattle.printed.specs.Numbers.{is_natural, is_shown, has_scheme, scheme_shown, term_numbers};
 ghost use Rattle.printed.specs.Tables.{term_of};
 
-use decimals::{natural, put_bytes, put_decimal};
+use decimals::{Line, natural};
 use fields::Column::{self, Amount, Date, Percent, Plain, Text};
 use fields::{number_at, numbers_from, put_field};
 
@@ -81,39 +81,31 @@ fn is_identifier(number: u8) -> bool
     number == 60 || number == 61
 }
 
-// Puts the scheme of an identifier behind its content, if there is one, and answers where the next bytes
-// go.
-fn put_scheme(out: &mut [u8], at: usize, text: &[u8], answer: &[i64], term: Term) -> usize
-    ensures { Placed out.old at (tabbed (maybe [] (λ t. t ∷ []) (scheme_shown text.now answer.now term.0 term.2))) out.new result }
+// Puts the scheme of an identifier behind its content, if there is one.
+fn put_scheme(line: &mut Line, text: &[u8], answer: &[i64], term: Term)
+    ensures { Puts (tabbed (maybe [] (λ t. t ∷ []) (scheme_shown text.now answer.now term.0 term.2))) line.old line.new }
 {
     if !is_identifier(term.0) {
-        return at;
+        return;
     }
     let place = term.2 as usize + 2;
     if !is_shown(Text, numbers_from(answer, place)) {
-        return at;
+        return;
     }
-    put_field(out, at, text, Text, answer, place)
+    put_field(line, text, Text, answer, place);
 }
 
-// Puts the number of a term, behind the line's word.
-fn put_term_number(out: &mut [u8], number: u8) -> usize
-    ensures { Placed out.old 0 (bytes "term" ++ 0x9 ∷ bytes "BT-" ++ decimal number) out.new result }
-{
-    let digits = put_bytes(out, 0, b"term\tBT-");
-    put_decimal(out, digits, number as u64)
-}
-
-// Puts the line of a term, nothing where it is absent, at the front, and answers where it ends.
-pub(crate) fn put_term(out: &mut [u8], text: &[u8], answer: &[i64], term: Term) -> usize
-    ensures { Placed out.old 0 (term_numbers text.now answer.now (term_of term)) out.new result }
+// Puts the line of a term, nothing where it is absent.
+pub(crate) fn put_term(line: &mut Line, text: &[u8], answer: &[i64], term: Term)
+    ensures { Puts (term_numbers text.now answer.now (term_of term)) line.old line.new }
 {
     let place = term.2 as usize;
     if !is_shown(term.1, numbers_from(answer, place)) {
-        return 0;
+        return;
     }
-    let content = put_term_number(out, term.0);
-    let scheme = put_field(out, content, text, term.1, answer, place);
-    let end = put_scheme(out, scheme, text, answer, term);
-    put_bytes(out, end, b"\n")
+    line.put_bytes(b"term\tBT-");
+    line.put_decimal(term.0 as u64);
+    put_field(line, text, term.1, answer, place);
+    put_scheme(line, text, answer, term);
+    line.put_byte(b'\n');
 }

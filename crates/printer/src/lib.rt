@@ -36,14 +36,15 @@ fn print_lines(
     Ok(())
 }
 
-// Reads a settlement under what an input line says, by its fields, and prints the reading; a larger table
-// is refused (10).
+// Reads a settlement and prints its reading; a larger table is refused (10).
 pub fn print_reading(
     rt: &impl Print,
     table: &[u32],
     text: &[u8],
-    input: &[u8],
-    fields: Fields,
+    currency: &[u8],
+    identifier: &[u8],
+    rules: u32,
+    mode: u32,
 ) -> io::Result<()> {
     let mut held = [0i64; HELD];
     let mut entries = [0i64; ENTRIES];
@@ -52,10 +53,10 @@ pub fn print_reading(
     rulzhamm_read(
         table,
         text,
-        bytes_at(input, fields.currency),
-        bytes_at(input, fields.identifier),
-        fields.rules,
-        fields.mode,
+        currency,
+        identifier,
+        rules,
+        mode,
         &mut held,
         &mut entries,
         &mut unmapped,
@@ -63,4 +64,23 @@ pub fn print_reading(
     );
     let mut out = [0u8; 524288];
     print_lines(rt, &mut out, text, &answer, &held, &entries, &unmapped)
+}
+
+// The same under what an input line says, by its fields.
+pub fn print_fields(
+    rt: &impl Print,
+    table: &[u32],
+    text: &[u8],
+    input: &[u8],
+    fields: Fields,
+) -> io::Result<()> {
+    print_reading(
+        rt,
+        table,
+        text,
+        bytes_at(input, fields.currency),
+        bytes_at(input, fields.identifier),
+        fields.rules,
+        fields.mode,
+    )
 }

@@ -49,7 +49,7 @@ fn print_fit(
     let mut table = [0u32; 1536];
     let count = numbers_of(records, &mut table);
     match table.get(..count) {
-        Some(numbers) => printer::print_reading(rt, numbers, text, input, fields),
+        Some(numbers) => printer::print_fields(rt, numbers, text, input, fields),
         None => Ok(()),
     }
 }

@@ -42,7 +42,7 @@ fn fields_end(line: &[u8]) -> usize
 // The reading of a table and its text under an input line, unless that is unfit.
 fn print_table(rt: &impl Print, input: &[u8], table: &[u32], text: &[u8]) -> io::Result<()> {
     match inputs::parse_line(input) {
-        Some(fields) => printer::print_reading(rt, table, text, input, fields),
+        Some(fields) => printer::print_fields(rt, table, text, input, fields),
         None => print_unfit(rt),
     }
 }

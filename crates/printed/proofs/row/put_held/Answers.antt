@@ -5,4 +5,4 @@ use Rattle.printed.proofs.row.put_held.Goals as goal
 
 pub returns : goal.returns
 unfolding line bytes encode
-returns c = held_put _ _ c.count_at.ensures c.columns_held.ensures c.put_row_line.ensures
+returns c = search held_put

@@ -4,5 +4,4 @@ use Rattle.printed.proofs.row.put_unmapped.Goals as goal
 
 pub returns : goal.returns
 unfolding bytes encode
-returns c =
-    unmapped_put _ _ c.put_bytes-next.ensures c.put_element-end.ensures c.put_bytes.ensures
+returns c = search unmapped_put

@@ -21,5 +21,5 @@ pub returns-then-j-e-2 : goal.returns-then-j-e-2
 returns-then-j-e-2 c =
     later_unmapped _ _ _ _ c.row_count-e.ensures _ c.if-j-e.false c.row_count-u.ensures c.if-j-e-2.true (rw c.row_at-then-j-e-2.ensures at c.put_unmapped.ensures)
 
-pub returns : goal.returns
-returns c = later_none _ _ _ _ c.row_count-e.ensures _ c.if-j-e.false c.row_count-u.ensures _ c.if-j-e-2.false
+pub returns-else-j-e-2 : goal.returns-else-j-e-2
+returns-else-j-e-2 c = later_none _ _ _ _ c.row_count-e.ensures _ c.if-j-e.false c.row_count-u.ensures _ c.if-j-e-2.false

@@ -2,9 +2,9 @@ use mathlib.Core.Path.{refl}
 use Rattle.text.specs.Utf8.{bytes, encode}
 use Rattle.names.specs.Path.{paths}
 use Rattle.labels.specs.PathText.{path_text, path_text_at}
-use Rattle.labels.proofs.Texts.{text_wrote}
-use Rattle.labels.proofs.path.put_path_text.Goals as goal
+use Rattle.labels.proofs.Texts.{text_found}
+use Rattle.labels.proofs.path.path_text.Goals as goal
 
 pub returns : goal.returns
 unfolding path_text_at paths bytes encode
-returns c = text_wrote path_text paths _ refl c.put_text.ensures
+returns c = text_found path_text paths _ refl c.text_of.ensures
