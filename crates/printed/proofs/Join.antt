@@ -20,7 +20,7 @@ use Rattle.settlement.specs.TableDoc.{shows, table_doc}
 use Rattle.settlement.specs.Shown.{map_reading}
 use Rattle.settlement.specs.Outcome.{Room, refused, read, call_refusal, unless, outcome, shown}
 use Rattle.settlement.specs.Result.{result_of, answer_row}
-use Rattle.settlement.proofs.Results.{numbered, call_numbered}
+use Rattle.settlement.proofs.Results.{refuses_as, numbered, call_numbered}
 use Rattle.decimals.specs.Decimal.{signed, natural}
 use Rattle.fields.specs.Line.{field}
 use Rattle.fields.specs.Columns.{fields}
@@ -80,7 +80,7 @@ module _ (x : List ℕ) (h e u : List ℤ) where
 
   -- the lines of every call
   pub lines_exit : (L : Lent) (m : Room) (t : List ℕ) → exit_lines x h e u (outcome L m t x) ≡ outcome_lines x (outcome L m t x)
-  unfolding outcome numbered
+  unfolding outcome refuses_as numbered
   lines_exit L m t = go (call_refusal L m t x) (call_numbered L m t x)
     where
       go : (o : Option (ℕ × ℕ)) → numbered o ≡ true → exit_lines x h e u (unless o (reading L (table_doc t x) 0)) ≡ outcome_lines x (unless o (reading L (table_doc t x) 0))

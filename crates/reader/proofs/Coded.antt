@@ -1,7 +1,7 @@
 -- A call for every input: the code's result whose meaning is the outcome's, and the lists as they are promised.
 use Rattle.text.specs.Options.{option_of}
 use mathlib.Core.Path.{◌≡◌, refl, ap}
-use mathlib.Core.Bool.{Bool, true, false, cond}
+use mathlib.Core.Bool.{Bool, true, cond}
 use mathlib.Core.List.{List}
 use mathlib.Core.Option.{Option, none, some}
 use Prim.Native.Nat.{ℕ, ◌+◌}
@@ -14,19 +14,18 @@ use Rattle.report.specs.Rows.{Place}
 use Rattle.report.specs.Encoding.{rows_then}
 use Rattle.report.specs.Values.{place_of, text_of, amount_of}
 use Rattle.report.specs.declared.value.Place as CodePlace
-use Rattle.refusals.specs.Refusals.{refuse, record_refusal, size_refusal, refusal}
+use Rattle.refusals.specs.Refusals.{record_refusal, size_refusal, refusal}
 use Rattle.refusals.specs.Reasons.{number}
 use Rattle.refusals.specs.declared.reasons.Reason.{Reason}
 use Rattle.refusals.specs.declared.reasons.Reason.TheVariants.{Mode, Rules, Ragged, Oversized, NotRoot, Misplaced, Outside, NotUtf8, NotSettlement, Cramped}
 use Rattle.refusals.specs.declared.reasons.Refusal.{Refusal}
-use Rattle.settlement.specs.Document.{or_else}
 use Rattle.settlement.specs.Shapes.{Identifier, Payee, Means, unset, card, debit, transfers, Period, Totals, Terms, Reading}
 use Rattle.settlement.specs.Values.{Lent}
 use Rattle.settlement.specs.Settlement.{reading}
-use Rattle.settlement.specs.Summation.{is_none}
 use Rattle.settlement.specs.TableDoc.{table_doc}
 use Rattle.settlement.specs.Outcome.{Room, Outcome, refused, read, call_refusal, unless, outcome}
 use Rattle.settlement.specs.Result.{result_of}
+use Rattle.settlement.proofs.Results.{refuses_as, none_as, refuse_as, either_as, either_way}
 use Rattle.groups.specs.Groups.{maybe_identifier_of}
 use Rattle.payment.specs.Walks.{means_of}
 use Rattle.payment.specs.declared.paying.Means as CodeMeans
@@ -176,31 +175,16 @@ code_reason n =
     (cond (eqb n 6) Misplaced (cond (eqb n 7) Outside (cond (eqb n 8) NotUtf8 (cond (eqb n 9) NotSettlement Cramped))))))))
 
 -- a refusal's number is that of its reason
+unfoldable own_number : ℕ → Bool
+own_number n = eqb (number (code_reason n)) n
+
 unfoldable reason_coded : Option (ℕ × ℕ) → Bool
-reason_coded none = true
-reason_coded (some n) = eqb (number (code_reason n.0)) n.0
-
-none_coded : reason_coded none ≡ true
-unfolding reason_coded
-none_coded = refl
-
-refuse_coded : (k : ℕ) (o : Option ℕ) (next : Option (ℕ × ℕ)) → reason_coded (refuse k o next) ≡ cond (is_none o) (reason_coded next) (eqb (number (code_reason k)) k)
-unfolding reason_coded
-refuse_coded k none next = refl
-refuse_coded k (some r) next = refl
-
-either_coded : (o p : Option (ℕ × ℕ)) → reason_coded (or_else o p) ≡ cond (is_none o) (reason_coded p) (reason_coded o)
-either_coded none p = refl
-either_coded (some n) p = refl
-
-either_way : (b : Bool) → cond b true true ≡ true
-either_way true = refl
-either_way false = refl
+reason_coded = refuses_as own_number
 
 -- as for all ten
 call_coded : (L : Lent) (m : Room) (t x : List ℕ) → reason_coded (call_refusal L m t x) ≡ true
-unfolding call_refusal refusal size_refusal record_refusal code_reason
-call_coded L m t x = simp (refuse_coded, either_coded, none_coded, either_way)
+unfolding reason_coded own_number call_refusal refusal size_refusal record_refusal code_reason
+call_coded L m t x = simp (refuse_as, either_as, none_as, either_way)
 
 -- what the code answers for an outcome
 abbrev pub code_answer : Outcome → Result Code.Reading Refusal
@@ -211,7 +195,7 @@ code_answer (read r) = Ok (record { held = length r.held; entries = length r.ent
 answer_coded :
     (n : Option (ℕ × ℕ)) (r : Reading Place) → reason_coded n ≡ true → (h e u : List ℤ) →
     Answered (unless n r) (answer_of (code_answer (unless n r))) h (rows_then (result_of (unless n r)).held h) e (rows_then (result_of (unless n r)).entries e) u (rows_then (result_of (unless n r)).unmapped u)
-unfolding result_of reason_coded
+unfolding result_of refuses_as own_number reason_coded
 answer_coded none r p h e u =
     record { refusal = refl; place = refl; terms = terms_coded r.terms; held_count = refl; entry_count = refl; unmapped_count = refl; held_rows = refl; entry_rows = refl; unmapped_rows = refl }
 answer_coded (some n) r p h e u =

@@ -51,36 +51,40 @@ pub blank_numbers :
 unfolding terms_row terms_of debit_of debited
 blank_numbers = refl
 
--- a refusal's number is not 0
-unfoldable pub numbered : Option (ℕ × ℕ) → Bool
-numbered none = true
-numbered (some n) = ltb 0 n.0
+-- the number of a refusal has property p
+unfoldable pub refuses_as : (ℕ → Bool) → Option (ℕ × ℕ) → Bool
+refuses_as p none = true
+refuses_as p (some n) = p n.0
 
-none_numbered : numbered none ≡ true
-unfolding numbered
-none_numbered = refl
+pub none_as : (p : ℕ → Bool) → refuses_as p none ≡ true
+unfolding refuses_as
+none_as p = refl
 
-refuse_numbered : (k : ℕ) (o : Option ℕ) (next : Option (ℕ × ℕ)) → numbered (refuse k o next) ≡ cond (is_none o) (numbered next) (ltb 0 k)
-unfolding numbered
-refuse_numbered k none next = refl
-refuse_numbered k (some r) next = refl
+pub refuse_as : (p : ℕ → Bool) (k : ℕ) (o : Option ℕ) (next : Option (ℕ × ℕ)) → refuses_as p (refuse k o next) ≡ cond (is_none o) (refuses_as p next) (p k)
+unfolding refuses_as
+refuse_as p k none next = refl
+refuse_as p k (some r) next = refl
 
-either_numbered : (o p : Option (ℕ × ℕ)) → numbered (or_else o p) ≡ cond (is_none o) (numbered p) (numbered o)
-either_numbered none p = refl
-either_numbered (some n) p = refl
+pub either_as : (p : ℕ → Bool) (o q : Option (ℕ × ℕ)) → refuses_as p (or_else o q) ≡ cond (is_none o) (refuses_as p q) (refuses_as p o)
+either_as p none q = refl
+either_as p (some n) q = refl
 
-either_way : (b : Bool) → cond b true true ≡ true
+pub either_way : (b : Bool) → cond b true true ≡ true
 either_way true = refl
 either_way false = refl
 
+-- a refusal's number is not 0
+unfoldable pub numbered : Option (ℕ × ℕ) → Bool
+numbered = refuses_as (ltb 0)
+
 -- as for all ten
 pub call_numbered : (L : Lent) (m : Room) (t x : List ℕ) → numbered (call_refusal L m t x) ≡ true
-unfolding call_refusal refusal size_refusal record_refusal
-call_numbered L m t x = simp (refuse_numbered, either_numbered, none_numbered, either_way)
+unfolding numbered call_refusal refusal size_refusal record_refusal
+call_numbered L m t x = simp (refuse_as, either_as, none_as, either_way)
 
 -- so an outcome of number 0 is a reading
 pub outcome_zero : (L : Lent) (m : Room) (t x : List ℕ) → (result_of (outcome L m t x)).number ≡ 0 → outcome L m t x ≡ read (reading L (table_doc t x) 0)
-unfolding outcome result_of numbered
+unfolding outcome result_of refuses_as numbered
 outcome_zero L m t x e = go (call_refusal L m t x) (call_numbered L m t x) e
   where
     go : (o : Option (ℕ × ℕ)) → numbered o ≡ true → (result_of (unless o (reading L (table_doc t x) 0))).number ≡ 0 → unless o (reading L (table_doc t x) 0) ≡ read (reading L (table_doc t x) 0)
