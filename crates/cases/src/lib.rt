@@ -1,5 +1,6 @@
 // The parts of a test case as it stands in a line of text: numbers, and texts with escapes and a
-// hole. In a text printable ASCII stands for itself, \HH for one byte, and \* for the hole.
+// hole. In a text printable ASCII stands for itself, \HH for one byte, and \* for the hole. And the
+// reading of the input that has the lines.
 //
 // Every function takes all bytes. No public function has a `requires`, and the crate assumes nothing
 // of its own.
@@ -12,6 +13,7 @@ ghost use Rattle.std.specs.Prelude.{◌≡◌, ◌+◌, min, get_or, set};
 ghost use Rattle.std.specs.Iterator.{YieldsFirst, item_count};
 ghost use Rattle.cases.specs.Symbols.{digit_of, escaped, symbol, symbols, size, weight, byte_of, holes_of, Filled};
 
+pub use inputs::read_full;
 pub use listing::numbers;
 pub use places::find;
 

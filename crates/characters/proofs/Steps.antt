@@ -1,17 +1,18 @@
 -- Laws of a pass over bytes in steps (specs/Utf8Walk.antt): ASCII is UTF-8, and a step goes on or stops as UTF-8 says.
 use mathlib.Core.Path.{◌≡◌, refl, sym, ◌∙◌, ap}
-use mathlib.Core.Bool.{Bool, true, false, cond, ◌&&◌}
+use mathlib.Core.Bool.{Bool, true, false, cond, not, ◌&&◌}
 use mathlib.Core.List.{List, [], ◌∷◌}
 use Prim.Native.Nat.{ℕ, zero, suc, ◌+◌, ◌-◌, ◌%◌, ◌≤◌, ◌<◌}
 use native.Mathlib.Omega.{arith}
-use borrow.Author.Tests.{leb-true, ltb-true, le-leb}
+use native.Mathlib.Decide.{dec_lt}
+use borrow.Author.Tests.{leb-true, ltb-true, le-leb, lt-leb, ne_eqb}
 use lib.Dec.{ltb, leb, eqb}
 use lib.ListN.{length, take, drop, length-drop}
 use lib.Seq.{drop-drop}
 use Rattle.text.proofs.Bools.{both}
 use Rattle.characters.specs.Characters.{Char, Bad, Point, front, size, chars, good, all_good, utf8, ascii}
-use Rattle.characters.specs.Utf8Walk.{plain, step}
-use Rattle.characters.proofs.Characters.{front_one, good_from, turn, turn_chars}
+use Rattle.characters.specs.Utf8Walk.{plain, step, passes, stepwise}
+use Rattle.characters.proofs.Characters.{front_one, good_from, turn, turn_chars, chars_end}
 
 -- ASCII is UTF-8
 ascii_good : (s : List ℕ) → ascii s ≡ true → all_good (chars 0 s) ≡ true
@@ -71,3 +72,20 @@ module _ (s : List ℕ) (i : ℕ) (h : i < length s) (n : ℕ) (en : n ≡ step 
   pub step_on : utf8 s ≡ good_from s i → (n ≡ 0 → ⊥) → utf8 s ≡ good_from s (i + n)
   unfolding Stepped
   step_on e z = e ∙ (stepped s i h n en).1.1 z
+
+-- the pass answers what UTF-8 says
+passes_good : (s : List ℕ) (n i : ℕ) → length s ≤ i + n → i ≤ length s → passes s n i ≡ good_from s i
+unfolding passes Stepped all_good
+passes_good s zero i h k = rw (le-leb (length s) i (omega arith)) (sym (ap all_good (chars_end s i (omega arith))))
+passes_good s (suc n) i h k = elim (dec_lt i (length s)) [
+  | yes q ↦ rw (lt-leb (length s) i q) (go (step s i) (stepped s i q (step s i) refl) (λ m. passes_good s n (i + suc m)))
+  | no q ↦ rw (le-leb (length s) i (omega arith)) (sym (ap all_good (chars_end s i (omega arith))))
+]
+  where
+    go : (m : ℕ) → Stepped s i m → ((m : ℕ) → length s ≤ i + suc m + n → i + suc m ≤ length s → passes s n (i + suc m) ≡ good_from s (i + suc m)) → (not (eqb m 0) && passes s n (i + m)) ≡ good_from s i
+    go zero p f = sym (p.1.0 refl)
+    go (suc m) p f = rw (ne_eqb (suc m) 0 (λ z. absurd (omega arith))) (f m (omega arith) p.0 ∙ sym (p.1.1 (λ z. absurd (omega arith))))
+
+pub stepwise_utf8 : (s : List ℕ) → utf8 s ≡ stepwise s
+unfolding utf8
+stepwise_utf8 s = sym (passes_good s (length s) 0 (omega arith) (omega arith))

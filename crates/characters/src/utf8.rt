@@ -2,6 +2,7 @@
 // throughout.
 ghost use Rattle.std.specs.Prelude.{◌≡◌, ◌+◌, ◌*◌, ◌%◌, ◌<◌, length, get_or, drop};
 ghost use Rattle.characters.specs.Characters.{is_scalar, tail, boundary, scalar, two, three, four, char_of, front, utf8};
+ghost use Rattle.characters.specs.Utf8Walk.{stepwise};
 
 // What stands at the front of bytes: a character's code point and the number of its bytes, or
 // nothing where that is no UTF-8.
@@ -138,7 +139,8 @@ pub fn char_from(s: &[u8], i: usize) -> Char
 
 // Whether s is UTF-8.
 pub fn is_utf8(s: &[u8]) -> bool
-    ensures { result ≡ utf8 s.now }
+    ensures utf8 { result ≡ utf8 s.now }
+    ensures steps { result ≡ stepwise s.now }
 {
     std::str::from_utf8(s).is_ok()
 }

@@ -16,9 +16,8 @@ mod leaves;
 
 use crate::answers::{Numbers, answer_at};
 use crate::leaves::{Leaf, leaf_of};
-use cases::holes;
+use cases::{holes, read_full};
 use std::io;
-use std::io::{BufRead, BufReader};
 use text::numeral_of;
 
 // A leaf function, the number that it takes, and a text as it is written.
@@ -99,13 +98,14 @@ fn print_line(rt: &impl Print, line: &[u8], space: &mut [u8]) -> io::Result<()> 
     print_case(rt, line, case, space)
 }
 
-// Each line of the input, of which the last may lack its line feed. The space has room for its bytes.
+// Each line of the first 262,144 bytes of the input, of which the last may lack its line feed. All of them
+// are read before a line is answered, and no heap is taken.
 fn main(rt: HostRuntime) -> io::Result<()> {
-    let mut space = Vec::new(rt.alloc());
-    for line in BufReader::new(rt.alloc(), rt.stdin())?.split(rt.alloc(), b'\n') {
-        let line = line?;
-        space.resize(line.len(), 0)?;
-        print_line(&rt, &line, &mut space)?;
+    let mut input = [0u8; 262144];
+    let mut space = [0u8; 262144];
+    let n = read_full(&mut rt.stdin(), &mut input)?;
+    for line in input[..n].split_inclusive(|b| *b == b'\n') {
+        print_line(&rt, line.strip_suffix(b"\n").unwrap_or(line), &mut space)?;
         rt.print("\n")?;
     }
     Ok(())

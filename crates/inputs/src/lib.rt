@@ -9,7 +9,9 @@
 mod files;
 mod input_line;
 mod parts;
+mod stream;
 
 pub use files::{input_of, numbers_of};
 pub use input_line::{Fields, parse_line};
 pub use parts::bytes_at;
+pub use stream::read_full;

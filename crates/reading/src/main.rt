@@ -10,26 +10,9 @@
 
 ghost use Rattle.std.specs.Prelude.{◌≡◌, ◌≤◌, IfOk, length};
 
-use inputs::{Fields, input_of, numbers_of};
-use std::io::Read;
+use inputs::{Fields, input_of, numbers_of, read_full};
 use std::rt::Files;
 use std::{fs, io};
-
-// Reads until buf is full or the input ends, and answers how many bytes it put at the front of buf. The
-// library's `read_to_end` needs the heap, of which this program takes none.
-fn read_full<R: Read>(reader: &mut R, buf: &mut [u8]) -> io::Result<usize>
-    ensures { IfOk result (λ n. n ≤ length buf.new) }
-{
-    let mut done = 0;
-    while done < buf.len() {
-        let n = reader.read(&mut buf[done..])?;
-        if n == 0 {
-            break;
-        }
-        done += n;
-    }
-    Ok(done)
-}
 
 // Reads a file by its name.
 fn read_file(rt: &impl Files, name: &str, buf: &mut [u8]) -> io::Result<usize>

@@ -6,12 +6,11 @@
 // oracle/README.md says how both files were made.
 #![tactic(auto)]
 
-ghost use Rattle.std.specs.Prelude.{◌≡◌};
+ghost use Rattle.std.specs.Prelude.{◌≡◌, length};
 ghost use Rattle.replay.specs.Case.{next_space, fields_end};
 
-use cases::find;
+use cases::{find, read_full};
 use std::io;
-use std::io::{BufRead, BufReader};
 
 fn print_unfit(rt: &impl Print) -> io::Result<()> {
     rt.write_all(b"unfit\n")
@@ -83,12 +82,23 @@ fn print_case(rt: &impl Print, line: &[u8], table: &mut [u32], text: &mut [u8]) 
     )
 }
 
-// Each line of the input, of which the last may lack its line feed.
+// Zeros for the input. The `ensures` gives only the length: so many zeros are more than a proof can hold.
+fn input_buffer() -> [u8; 524288]
+    ensures { 524288 ≡ length result }
+{
+    [0; 524288]
+}
+
+// Each line of the first 524,288 bytes of the input, of which the last may lack its line feed. All of them
+// are read before a case is answered, and no heap is taken.
 fn main(rt: HostRuntime) -> io::Result<()> {
+    let mut input = input_buffer();
     let mut table = [0u32; 1536];
     let mut text = [0u8; 65536];
-    for line in BufReader::new(rt.alloc(), rt.stdin())?.split(rt.alloc(), b'\n') {
-        print_case(&rt, &line?, &mut table, &mut text)?;
+    let n = read_full(&mut rt.stdin(), &mut input)?;
+    for line in input[..n].split_inclusive(|b| *b == b'\n') {
+        let line = line.strip_suffix(b"\n").unwrap_or(line);
+        print_case(&rt, line, &mut table, &mut text)?;
         rt.write_all(b"\n")?;
     }
     Ok(())

@@ -10,9 +10,8 @@
 mod answer;
 
 use crate::answer::print_answer;
-use cases::find;
+use cases::{find, read_full};
 use std::io;
-use std::io::{BufRead, BufReader};
 use table::Table;
 
 // The most zeros and zero bytes of a case.
@@ -21,21 +20,19 @@ const ZEROS: usize = 24600;
 const BLANK: usize = 65536;
 
 // The answer for n zeros and m zero bytes.
-fn print_zeros(rt: &(impl Print + AllocGlobal), n: usize, m: usize) -> io::Result<()> {
+fn print_zeros(rt: &impl Print, n: usize, m: usize) -> io::Result<()> {
     if n > ZEROS || m > BLANK {
         return rt.print("unfit");
     }
-    let zeros = vec![in rt.alloc(); 0u32; n]?;
-    let blank = vec![in rt.alloc(); 0u8; m]?;
     let table = Table {
-        records: &zeros,
-        text: &blank,
+        records: &[0; ZEROS][..n],
+        text: &[0; BLANK][..m],
     };
     print_answer(rt, &table)
 }
 
 // The two numbers of a line `zeros N M`.
-fn print_counts(rt: &(impl Print + AllocGlobal), counts: &[u8]) -> io::Result<()> {
+fn print_counts(rt: &impl Print, counts: &[u8]) -> io::Result<()> {
     let mut both = [0u32; 2];
     if cases::numbers(counts, &mut both) == 2 {
         return print_zeros(rt, both[0] as usize, both[1] as usize);
@@ -63,12 +60,7 @@ fn print_table(
     rt.print("unfit")
 }
 
-fn print_line(
-    rt: &(impl Print + AllocGlobal),
-    line: &[u8],
-    table: &mut [u32],
-    text: &mut [u8],
-) -> io::Result<()> {
+fn print_line(rt: &impl Print, line: &[u8], table: &mut [u32], text: &mut [u8]) -> io::Result<()> {
     if line.len() < 6 {
         return rt.print("unfit");
     }
@@ -82,12 +74,16 @@ fn print_line(
     print_table(rt, &line[..colon - 1], &line[colon + 1..], table, text)
 }
 
-// Each line of the input, of which the last may lack its line feed.
+// Each line of the first 262,144 bytes of the input, of which the last may lack its line feed. All of them
+// are read before a line is answered, and no heap is taken.
 fn main(rt: HostRuntime) -> io::Result<()> {
+    let mut input = [0u8; 262144];
     let mut table = [0u32; 4096];
     let mut text = [0u8; 65536];
-    for line in BufReader::new(rt.alloc(), rt.stdin())?.split(rt.alloc(), b'\n') {
-        print_line(&rt, &line?, &mut table, &mut text)?;
+    let n = read_full(&mut rt.stdin(), &mut input)?;
+    for line in input[..n].split_inclusive(|b| *b == b'\n') {
+        let line = line.strip_suffix(b"\n").unwrap_or(line);
+        print_line(&rt, line, &mut table, &mut text)?;
         rt.print("\n")?;
     }
     Ok(())
