@@ -2,6 +2,7 @@
 use Rattle.std.specs.Prelude.{Bool, true, cond, List, [], ◌∷◌, ◌++◌, ℕ, ℤ}
 use Rattle.std.proofs.Math.Option.{Option, none, some}
 use Rattle.text.specs.Utf8.{bytes}
+use Rattle.text.specs.Options.{option_of}
 use Rattle.names.specs.declared.message.Message.TheVariants as Message
 use Rattle.names.specs.declared.path.Path.{Path}
 use Rattle.report.specs.Rows.{Place, AllowanceCharge}
@@ -18,7 +19,7 @@ use Rattle.report.specs.declared.held.AllowanceCharge as CodeRow
 
 -- the terms and rules of a group
 abbrev pub group_terms_of : Code.Group → GroupTerms
-group_terms_of g = record { amount = g.amount; base = g.base; percentage = g.percentage; category = g.category; rate = g.rate; amount_rule = g.amount_rule; category_rule = g.category_rule }
+group_terms_of g = record { amount = option_of g.amount; base = option_of g.base; percentage = option_of g.percentage; category = option_of g.category; rate = option_of g.rate; amount_rule = g.amount_rule; category_rule = g.category_rule }
 
 -- the paths of a VAT category's element
 abbrev pub tax_paths_of : CodePaths.TaxPaths → TaxPaths

@@ -1,5 +1,6 @@
 // The terms and rules of allowances and of charges.
 ghost use Rattle.std.specs.Prelude.{◌≡◌, true, false, cond};
+ghost use Rattle.text.specs.Options.{option_of};
 ghost use Rattle.settlement.specs.Tax.{group_terms};
 ghost use Rattle.settlement.specs.Values.{grouped};
 ghost use Rattle.amounts.specs.Amounts.{Wanted};
@@ -17,11 +18,11 @@ pub(crate) fn charge_group(index: u32) -> Group
 {
     Group {
         index,
-        amount: Term::Bt99,
-        base: Term::Bt100,
-        percentage: Term::Bt101,
-        category: Term::Bt102,
-        rate: Term::Bt103,
+        amount: Some(Term::Bt99),
+        base: Some(Term::Bt100),
+        percentage: Some(Term::Bt101),
+        category: Some(Term::Bt102),
+        rate: Some(Term::Bt103),
         amount_rule: Rule::Br36,
         category_rule: Rule::Br37,
     }
@@ -33,11 +34,11 @@ fn allowance_group(index: u32) -> Group
 {
     Group {
         index,
-        amount: Term::Bt92,
-        base: Term::Bt93,
-        percentage: Term::Bt94,
-        category: Term::Bt95,
-        rate: Term::Bt96,
+        amount: Some(Term::Bt92),
+        base: Some(Term::Bt93),
+        percentage: Some(Term::Bt94),
+        category: Some(Term::Bt95),
+        rate: Some(Term::Bt96),
         amount_rule: Rule::Br31,
         category_rule: Rule::Br32,
     }
@@ -55,7 +56,7 @@ pub(crate) fn group_terms(charge: bool, allowances: u32, charges: u32) -> Group
 
 // The amount that a group must have (BT-92 or BT-99), by the path of the group and that of the amount.
 pub(crate) fn wanted_amount(g: Group, group: Path, path: Path) -> Required
-    ensures { Wanted result g.amount_rule group (grouped path g.amount g.index) }
+    ensures { Wanted result g.amount_rule group (grouped path (option_of g.amount) g.index) }
 {
     Required {
         rule: g.amount_rule,

@@ -6,11 +6,11 @@ use names::{Path, Term};
 #[derive(Clone, Copy)]
 pub struct Group {
     pub index: u32,
-    pub amount: Term,
-    pub base: Term,
-    pub percentage: Term,
-    pub category: Term,
-    pub rate: Term,
+    pub amount: Option<Term>,
+    pub base: Option<Term>,
+    pub percentage: Option<Term>,
+    pub category: Option<Term>,
+    pub rate: Option<Term>,
     pub amount_rule: Rule,
     pub category_rule: Rule,
 }

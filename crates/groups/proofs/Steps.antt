@@ -29,8 +29,8 @@ use Rattle.groups.specs.Taxes.{vat_category, point_date_found, point_code_in, po
 module _ {e₀ e₁ e₂ : Entries} where
   -- a category: type code, category, rate
   pub category_told :
-      {e₃ : Entries} {u v w : Site} {i j q : Option Place} {k : Place} {r : Option (ℤ × ℕ)} (mode rules : ℕ) (D : Doc ℕ Place) (x : List ℕ) (of : Category) (g : ℕ) (kids : CategoryKids) → u ≡ grouped of.code of.category g →
-      v ≡ grouped of.whole of.category g → w ≡ grouped of.share of.rate g → i ≡ text_found D 0 (option_of kids.kind) → j ≡ text_found D 0 (option_of kids.code) → q ≡ text_found D mode (option_of kids.rate) →
+      {e₃ : Entries} {u v w : Site} {i j q : Option Place} {k : Place} {r : Option (ℤ × ℕ)} (mode rules : ℕ) (D : Doc ℕ Place) (x : List ℕ) (of : Category) (g : ℕ) (kids : CategoryKids) → u ≡ grouped of.code (option_of of.category) g →
+      v ≡ grouped of.whole (option_of of.category) g → w ≡ grouped of.share (option_of of.rate) g → i ≡ text_found D 0 (option_of kids.kind) → j ≡ text_found D 0 (option_of kids.code) → q ≡ text_found D mode (option_of kids.rate) →
       Said (not_vat_in x u i) e₀ e₁ → Told (code_in rules of.rule v j) e₁ k e₂ → Told (percent_in x w q) e₂ r e₃ → Told (category_found mode rules D x of g kids) e₀ (k, r) e₃
   unfolding category_found
   category_told mode rules D x of g kids e f h i j q y z p =
@@ -47,7 +47,7 @@ module _ {e₀ e₁ e₂ : Entries} where
 
   -- a preceding invoice: reference and date
   pub preceding_told :
-      {u : Site} {k : Place} {d : Option ℕ} (mode rules : ℕ) (D : Doc ℕ Place) (g n : ℕ) → u ≡ grouped Path.SettlementInvoiceReferencedDocument Term.Bt25 g → Told (required_code rules D Rule.Br55 u n (bytes "IssuerAssignedID")) e₀ k e₁ →
+      {u : Site} {k : Place} {d : Option ℕ} (mode rules : ℕ) (D : Doc ℕ Place) (g n : ℕ) → u ≡ grouped Path.SettlementInvoiceReferencedDocument (some Term.Bt25) g → Told (required_code rules D Rule.Br55 u n (bytes "IssuerAssignedID")) e₀ k e₁ →
       Told (date mode D false Path.ReferencedDocumentIssueDateTimeString Path.ReferencedDocumentIssueDateString n (bytes "FormattedIssueDateTime")) e₁ d e₂ → Told (preceding_says mode rules D g n) e₀ (record { reference = k; date = d }) e₂
   unfolding preceding_says
   preceding_told mode rules D g n e p q =

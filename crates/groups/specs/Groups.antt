@@ -68,6 +68,6 @@ module _ (D : Doc ℕ Place) where
 -- a preceding invoice with what it says
 unfoldable pub preceding_says : ℕ → ℕ → Doc ℕ Place → ℕ → ℕ → Says Place (Preceding Place)
 preceding_says mode rules D g n =
-    let r = required_code rules D Rule.Br55 (grouped Path.SettlementInvoiceReferencedDocument Term.Bt25 g) n (bytes "IssuerAssignedID") in
+    let r = required_code rules D Rule.Br55 (grouped Path.SettlementInvoiceReferencedDocument (some Term.Bt25) g) n (bytes "IssuerAssignedID") in
     let d = date mode D false Path.ReferencedDocumentIssueDateTimeString Path.ReferencedDocumentIssueDateString n (bytes "FormattedIssueDateTime") in
     (record { reference = r.0; date = d.0 }, r.1 ++ d.1)

@@ -1,6 +1,6 @@
 -- VAT breakdowns in the code's terms.
 use Rattle.text.specs.Options.{option_of}
-use Rattle.std.specs.Prelude.{true, cond, List, [], ◌∷◌, ◌++◌, ℕ, ℤ}
+use Rattle.std.specs.Prelude.{Some, true, cond, List, [], ◌∷◌, ◌++◌, ℕ, ℤ}
 use Rattle.std.proofs.Math.Option.{Option, some}
 use Rattle.text.specs.Order.{equal}
 use Rattle.text.specs.Utf8.{bytes}
@@ -61,16 +61,16 @@ point_says mode D s n =
 
 -- the category of a breakdown
 abbrev pub vat_category : Category
-vat_category = record { code = Path.TradeTaxTypeCode; whole = Path.SettlementTradeTax; share = Path.TradeTaxRateApplicablePercent; category = Term.Bt118; rate = Term.Bt119; rule = Rule.Br47 }
+vat_category = record { code = Path.TradeTaxTypeCode; whole = Path.SettlementTradeTax; share = Path.TradeTaxRateApplicablePercent; category = Some Term.Bt118; rate = Some Term.Bt119; rule = Rule.Br47 }
 
 module _ (L : Lent) (D : Doc ℕ Place) (g n : ℕ) where
   -- the taxable amount of a breakdown
   abbrev pub basis_amount : Says Place ℤ
-  basis_amount = required_amount L D Rule.Br45 Path.SettlementTradeTax (grouped Path.TradeTaxBasisAmount Term.Bt116 g) n (bytes "BasisAmount")
+  basis_amount = required_amount L D Rule.Br45 Path.SettlementTradeTax (grouped Path.TradeTaxBasisAmount (some Term.Bt116) g) n (bytes "BasisAmount")
 
   -- its tax amount
   abbrev pub calculated_amount : Says Place ℤ
-  calculated_amount = required_amount L D Rule.Br46 Path.SettlementTradeTax (grouped Path.TradeTaxCalculatedAmount Term.Bt117 g) n (bytes "CalculatedAmount")
+  calculated_amount = required_amount L D Rule.Br46 Path.SettlementTradeTax (grouped Path.TradeTaxCalculatedAmount (some Term.Bt117) g) n (bytes "CalculatedAmount")
 
 -- point date and code after a breakdown, and the breakdown, with what it says
 unfoldable pub trade_tax_says : Lent → Doc ℕ Place → VatState Place → ℕ → Says Place (VatState Place × Vat Place)

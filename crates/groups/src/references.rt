@@ -25,7 +25,11 @@ pub fn preceding(
     doc.first_children(n, &names, &mut kids);
     let [id, issue] = kids;
     let id = doc.child_text(0, id);
-    let site = values::grouped(Path::SettlementInvoiceReferencedDocument, Term::Bt25, index);
+    let site = values::grouped(
+        Path::SettlementInvoiceReferencedDocument,
+        Some(Term::Bt25),
+        index,
+    );
     let paths = DatePaths {
         point: false,
         time: Path::ReferencedDocumentIssueDateTimeString,

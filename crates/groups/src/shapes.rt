@@ -50,8 +50,8 @@ pub struct Category {
     pub code: Path,
     pub whole: Path,
     pub share: Path,
-    pub category: Term,
-    pub rate: Term,
+    pub category: Option<Term>,
+    pub rate: Option<Term>,
     pub rule: Rule,
 }
 

@@ -1,6 +1,7 @@
 // BG-23 VAT breakdown, with the VAT point date and code of the invoice.
 ghost use Rattle.text.specs.Options.{option_of};
 ghost use Rattle.std.specs.Prelude.{◌≡◌};
+ghost use Rattle.std.proofs.Math.Option.{some};
 ghost use Rattle.names.specs.declared.path.Path.TheVariants as PathOf;
 ghost use Rattle.report.specs.Values.{place_of, text_of, vat_of};
 ghost use Rattle.settlement.specs.Values.{grouped};
@@ -112,12 +113,12 @@ fn point(
 
 // An amount that the VAT breakdown of an index must have, by its rule, its path and its term.
 fn wanted(rule: Rule, path: Path, term: Term, index: u32) -> Required
-    ensures { Wanted result rule PathOf.SettlementTradeTax (grouped path term index) }
+    ensures { Wanted result rule PathOf.SettlementTradeTax (grouped path (some term) index) }
 {
     Required {
         rule,
         group: Path::SettlementTradeTax,
-        site: values::grouped(path, term, index),
+        site: values::grouped(path, Some(term), index),
     }
 }
 
@@ -129,8 +130,8 @@ fn vat_category() -> Category
         code: Path::TradeTaxTypeCode,
         whole: Path::SettlementTradeTax,
         share: Path::TradeTaxRateApplicablePercent,
-        category: Term::Bt118,
-        rate: Term::Bt119,
+        category: Some(Term::Bt118),
+        rate: Some(Term::Bt119),
         rule: Rule::Br47,
     }
 }

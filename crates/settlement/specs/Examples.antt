@@ -90,7 +90,7 @@ reading_of_lines =
 pub record Examples (L : Lent) : Type 0 where
   -- 1, a currencyID that is not listed; 2, one that is not the invoice's
   pub currencies : (reading_with (branch "ApplicableTradeTax" (in_currency "EURO" "BasisAmount" "1" ∷ in_currency "USD" "CalculatedAmount" "1" ∷ []) ∷ [])).entries ≡
-      entry Message.UnlistedCurrency (grouped Path.TradeTaxBasisAmount Term.Bt116 0) (some (bytes "EURO")) ∷ entry Message.OtherCurrency (grouped Path.TradeTaxCalculatedAmount Term.Bt117 0) (some (bytes "USD")) ∷ []
+      entry Message.UnlistedCurrency (grouped Path.TradeTaxBasisAmount (some Term.Bt116) 0) (some (bytes "EURO")) ∷ entry Message.OtherCurrency (grouped Path.TradeTaxCalculatedAmount (some Term.Bt117) 0) (some (bytes "USD")) ∷ []
   -- an amount without a text says nothing of its currency, required or not
   pub empty_amounts : (reading_with (branch "ApplicableTradeTax" (in_currency "EURO" "BasisAmount" " " ∷ []) ∷ branch "SpecifiedTradeSettlementHeaderMonetarySummation" (in_currency "EURO" "RoundingAmount" " " ∷ []) ∷ [])).entries ≡ []
   -- 12, not CCYYMMDD; 13, no such day
@@ -122,7 +122,7 @@ pub record Examples (L : Lent) : Type 0 where
       record { line = pos 0; allowance = none; charge = none; taxable = pos 0; vat = some (pos 1000); vat_accounting = none; gross = pos 0; paid = none; rounding = none; due = pos 0 }
   -- R-1: in mode 1 line ends are trimmed, and of line ends alone nothing is left: a required amount is missing (9), an optional one and a rate are absent, a date has an empty value (12)
   pub line_ends : reading_of_lines.entries ≡
-      entry Message.Missing (grouped Path.SettlementTradeTax Term.Bt116 0) none ∷ entry Message.NotCcyymmdd (site Path.PaymentTermsDueDateTimeString none) (some []) ∷ []
+      entry Message.Missing (grouped Path.SettlementTradeTax (some Term.Bt116) 0) none ∷ entry Message.NotCcyymmdd (site Path.PaymentTermsDueDateTimeString none) (some []) ∷ []
   pub line_ends_rows : reading_of_lines.held ≡ vat (record { taxable = pos 0; tax = pos 1900; category = bytes "S"; rate = some (pos 19, 0); reason = none; code = none }) ∷ vat (record { taxable = pos 100; tax = pos 0; category = []; rate = none; reason = none; code = none }) ∷ []
   pub line_ends_totals : reading_of_lines.terms.totals ≡
       record { line = pos 0; allowance = none; charge = some (pos 100); taxable = pos 0; vat = none; vat_accounting = none; gross = pos 0; paid = none; rounding = none; due = pos 0 }

@@ -150,7 +150,7 @@ module _ {N X : Type 0} (L : Lent) (D : Doc N X) where
   -- BG-3: reference, date
   unfoldable pub preceding_of : ℕ → N → Act X ℕ
   preceding_of g n =
-      let r = required_code L.rules D Rule.Br55 (grouped Path.SettlementInvoiceReferencedDocument Term.Bt25 g) n (bytes "IssuerAssignedID") in
+      let r = required_code L.rules D Rule.Br55 (grouped Path.SettlementInvoiceReferencedDocument (some Term.Bt25) g) n (bytes "IssuerAssignedID") in
       let d = date L.mode D false Path.ReferencedDocumentIssueDateTimeString Path.ReferencedDocumentIssueDateString n (bytes "FormattedIssueDateTime") in
       record { next = suc g; says = r.1 ++ d.1; holds = preceding (record { reference = r.0; date = d.0 }) ∷ []; strays = [] }
 

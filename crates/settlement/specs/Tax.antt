@@ -34,18 +34,18 @@ applied_paths =
 
 -- the terms of an allowance (BG-20) or a charge (BG-21), and the rules that require two of them
 pub record GroupTerms : Type 0 where
-  pub amount : Term
-  pub base : Term
-  pub percentage : Term
-  pub category : Term
-  pub rate : Term
+  pub amount : Option Term
+  pub base : Option Term
+  pub percentage : Option Term
+  pub category : Option Term
+  pub rate : Option Term
   pub amount_rule : Rule
   pub category_rule : Rule
 
 -- a charge's, or an allowance's
 abbrev pub group_terms : Bool → GroupTerms
-group_terms false = record { amount = Term.Bt92; base = Term.Bt93; percentage = Term.Bt94; category = Term.Bt95; rate = Term.Bt96; amount_rule = Rule.Br31; category_rule = Rule.Br32 }
-group_terms true = record { amount = Term.Bt99; base = Term.Bt100; percentage = Term.Bt101; category = Term.Bt102; rate = Term.Bt103; amount_rule = Rule.Br36; category_rule = Rule.Br37 }
+group_terms false = record { amount = some Term.Bt92; base = some Term.Bt93; percentage = some Term.Bt94; category = some Term.Bt95; rate = some Term.Bt96; amount_rule = Rule.Br31; category_rule = Rule.Br32 }
+group_terms true = record { amount = some Term.Bt99; base = some Term.Bt100; percentage = some Term.Bt101; category = some Term.Bt102; rate = some Term.Bt103; amount_rule = Rule.Br36; category_rule = Rule.Br37 }
 
 -- BT-7: the point date, until one is read
 unfoldable pub point_date : {N X : Type 0} → ℕ → Doc N X → VatState X → N → Says X (Option ℕ)
@@ -94,13 +94,13 @@ module _ {N X : Type 0} (L : Lent) (D : Doc N X) where
       let g = s.count in
       let d = point_date L.mode D s n in
       let c = point_code D s n in
-      let a = required_amount L D Rule.Br45 Path.SettlementTradeTax (grouped Path.TradeTaxBasisAmount Term.Bt116 g) n (bytes "BasisAmount") in
-      let b = required_amount L D Rule.Br46 Path.SettlementTradeTax (grouped Path.TradeTaxCalculatedAmount Term.Bt117 g) n (bytes "CalculatedAmount") in
-      let k = required_code L.rules D Rule.Br47 (grouped Path.SettlementTradeTax Term.Bt118 g) n (bytes "CategoryCode") in
-      let r = percent L.mode D (grouped Path.TradeTaxRateApplicablePercent Term.Bt119 g) n (bytes "RateApplicablePercent") in
+      let a = required_amount L D Rule.Br45 Path.SettlementTradeTax (grouped Path.TradeTaxBasisAmount (some Term.Bt116) g) n (bytes "BasisAmount") in
+      let b = required_amount L D Rule.Br46 Path.SettlementTradeTax (grouped Path.TradeTaxCalculatedAmount (some Term.Bt117) g) n (bytes "CalculatedAmount") in
+      let k = required_code L.rules D Rule.Br47 (grouped Path.SettlementTradeTax (some Term.Bt118) g) n (bytes "CategoryCode") in
+      let r = percent L.mode D (grouped Path.TradeTaxRateApplicablePercent (some Term.Bt119) g) n (bytes "RateApplicablePercent") in
       record {
         next = record { count = suc g; point = d.0; code = c.0.code; first = c.0.first };
-        says = d.1 ++ (c.1 ++ (a.1 ++ (b.1 ++ (not_vat D (grouped Path.TradeTaxTypeCode Term.Bt118 g) n ++ (k.1 ++ r.1)))));
+        says = d.1 ++ (c.1 ++ (a.1 ++ (b.1 ++ (not_vat D (grouped Path.TradeTaxTypeCode (some Term.Bt118) g) n ++ (k.1 ++ r.1)))));
         holds = vat (record { taxable = a.0; tax = b.0; category = k.0; rate = r.0; reason = kid_text D 0 n (bytes "ExemptionReason"); code = kid_text D 0 n (bytes "ExemptionReasonCode") }) ∷ [];
         strays = [];
       }

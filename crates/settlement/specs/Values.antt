@@ -38,8 +38,8 @@ abbrev pub site : Path → Option Term → Site
 site p t = record { path = p; term = t; index = none }
 
 -- a site in the group of an index
-abbrev pub grouped : Path → Term → ℕ → Site
-grouped p t g = record { path = p; term = some t; index = some g }
+abbrev pub grouped : Path → Option Term → ℕ → Site
+grouped p t g = record { path = p; term = t; index = some g }
 
 -- an answer with what is to be said
 abbrev pub Says : Type 0 → Type 0 → Type 0

@@ -19,12 +19,12 @@ pub fn site(path: Path, term: Option<Term>) -> Site
 }
 
 // A site in the group of an index.
-pub fn grouped(path: Path, term: Term, index: u32) -> Site
-    ensures { site_of result ≡ reading.grouped path term index }
+pub fn grouped(path: Path, term: Option<Term>, index: u32) -> Site
+    ensures { site_of result ≡ reading.grouped path (option_of term) index }
 {
     Site {
         path,
-        term: Some(term),
+        term,
         index: Some(index),
     }
 }
