@@ -6,22 +6,25 @@ use Prim.Native.Nat.{ℕ, zero, suc, ◌-◌, ◌≤◌, ◌<◌}
 use native.Mathlib.Omega.{arith}
 use borrow.Author.Tests.{ne_eqb}
 use native.Mathlib.Numerals.{add-one}
-use lib.ListN.{length, get_or, take, drop, drop_of_length-le}
+use lib.ListN.{length, get_or, drop, drop_of_length-le}
 use lib.Seq.{drop-cons}
 use Rattle.std.proofs.Math.Bool.{or_assoc, or-false}
 use Rattle.std.specs.List.{list_any, range_with_len}
 use Rattle.text.specs.Order.{equal}
-use Rattle.std.specs.Prelude.{nat_eq, ◌==◌}
-use Rattle.std.specs.List.{starts_with}
-use Rattle.std.specs.Cmp.Lexicographic.{nat_list_eq_equiv}
-use Rattle.text.proofs.Orders.{equal_pointwise}
-use Rattle.text.proofs.Spans.{rest}
+use Rattle.std.specs.Prelude.{◌==◌}
+use Rattle.text.specs.Span.{clipped}
 use Rattle.codes.specs.Conformant.{begins, contains}
 
--- what `starts_with` says of the text from i on
-pub stands : (s : List ℕ) (i : ℕ) (needle : List ℕ) {r : Bool} → r ≡ starts_with nat_eq (take (length s - i) (drop i s)) needle → r ≡ begins needle (drop i s)
-unfolding begins
-stands s i needle q = q ∙ ap (λ (t : List ℕ). starts_with nat_eq t needle) (rest s i) ∙ nat_list_eq_equiv.symm needle (take (length needle) (drop i s)) ∙ equal_pointwise (take (length needle) (drop i s)) needle
+-- what `begins_at` compares
+pub stands : (s : List ℕ) (i : ℕ) (needle : List ℕ) {r : Bool} {p : List ℕ} → p ≡ clipped s i (length needle) → r ≡ equal p needle → r ≡ begins needle (drop i s)
+unfolding clipped begins
+stands s i needle e q = q ∙ rw e
+
+-- where the first byte is another, it does not stand
+pub stands_not : (s : List ℕ) (i : ℕ) (needle : List ℕ) {e : Bool} → i < length s → e ≡ (length needle == 0) → e ≡ false → (get_or s i 0 ≡ get_or needle 0 0 → ⊥) → false ≡ begins needle (drop i s)
+unfolding begins equal
+stands_not s i [] h q f n = cc
+stands_not s i (c ∷ needle) h q f n = rw (drop-cons s i 0 h, ne_eqb (get_or s i 0) c n)
 
 -- nothing is left but the empty text
 empty_begins : (needle : List ℕ) → (length needle == 0) ≡ begins needle []
