@@ -7,7 +7,7 @@ use native.Mathlib.Omega.{arith}
 use native.Mathlib.Nat.{le_of_suc-le-suc, not-suc-le-zero}
 use native.Mathlib.Decide.{dec_lt}
 use borrow.Author.Tests.{eqb-true}
-use lib.Dec.{eqb}
+use lib.Dec.{eqb, ltb}
 use lib.ListN.{length, get_or}
 use Rattle.std.specs.Prelude.{Result, Ok, Err}
 use Rattle.std.specs.Result.{is_ok}
@@ -112,28 +112,28 @@ found l x (Err i) e b h = sym (among_none l x [] none)
 unfoldable pub codes : List (List ℕ)
 codes = map bytes currency_codes
 
--- the computed tests of the entire list: the codes ascend without repeats, and each is three bytes
-pub codes_ascend : ascends [] codes ≡ true
-unfolding codes currency_codes bytes encode ascends
+-- each text is three bytes, each below 256
+unfoldable pub threes : List (List ℕ) → Bool
+threes [] = true
+threes (t ∷ l) = eqb (length t) 3 && (ltb (get_or t 0 0) 256 && ltb (get_or t 1 0) 256 && ltb (get_or t 2 0) 256) && threes l
+
+-- the computed test of the entire list: the codes ascend without repeats, and each is three bytes
+pub codes_ascend : (ascends [] codes && threes codes) ≡ true
+unfolding codes currency_codes bytes encode ascends threes
 codes_ascend = refl
 
 -- a search of the table answers that s is there just where s is listed
 pub member_listed : (s : List ℕ) (r : Result ℕ ℕ) → IsSearchInRange r (length codes) → IsBinarySearchResult (λ y. against y s) codes r → is_ok r ≡ listed s
 unfolding codes listed
-member_listed s r b h = found codes s r codes_ascend b h
-
-unfoldable threes : List (List ℕ) → Bool
-threes [] = true
-threes (t ∷ l) = eqb (length t) 3 && threes l
-
-codes_three : threes codes ≡ true
-unfolding codes currency_codes bytes encode threes
-codes_three = refl
+member_listed s r b h = found codes s r (both (ascends [] codes) (threes codes) codes_ascend).0 b h
 
 other : (s : List ℕ) (l : List (List ℕ)) → threes l ≡ true → (length s ≡ 3 → ⊥) → among s l ≡ false
 unfolding among threes
 other s [] e n = refl
-other s (t ∷ l) e n = let b = both (eqb (length t) 3) (threes l) e in go (equal s t) refl (eqb-true (length t) 3 b.0) (other s l b.1 n)
+other s (t ∷ l) e n =
+    let bytes_below = ltb (get_or t 0 0) 256 && ltb (get_or t 1 0) 256 && ltb (get_or t 2 0) 256 in
+    let b = both (eqb (length t) 3 && bytes_below) (threes l) e in
+    go (equal s t) refl (eqb-true (length t) 3 (both (eqb (length t) 3) bytes_below b.0).0) (other s l b.1 n)
   where
     go : (p : Bool) → equal s t ≡ p → length t ≡ 3 → among s l ≡ false → (equal s t || among s l) ≡ false
     go true q h r = absurd (n (ap length (equal_is s t q) ∙ h))
@@ -142,7 +142,7 @@ other s (t ∷ l) e n = let b = both (eqb (length t) 3) (threes l) e in go (equa
 -- a text of another length
 pub listed_other : (s : List ℕ) → (length s ≡ 3 → ⊥) → false ≡ listed s
 unfolding listed codes
-listed_other s n = sym (other s codes codes_three n)
+listed_other s n = sym (other s codes (both (ascends [] codes) (threes codes) codes_ascend).1 n)
 
 -- a text of three bytes
 pub three : (s : List ℕ) → length s ≡ 3 → get_or s 0 0 ∷ get_or s 1 0 ∷ get_or s 2 0 ∷ [] ≡ s
