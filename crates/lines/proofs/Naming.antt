@@ -16,6 +16,7 @@ use Rattle.text.specs.Span.{clipped}
 use Rattle.labels.specs.PathText.{path_text_at}
 use Rattle.labels.specs.TermName.{term_group_at, term_name_at}
 use Rattle.labels.specs.ParentName.{parent_name_at}
+use Rattle.report.specs.Placed.{behind, Placed}
 use Rattle.decimals.specs.Decimal.{decimal, natural}
 use Rattle.decimals.specs.Puts.{Puts}
 use Rattle.decimals.specs.declared.line.Line.{Line}
@@ -23,6 +24,11 @@ use Rattle.decimals.proofs.Putting.{puts_none, puts_then, puts_as}
 use Rattle.decimals.proofs.Signs.{held, below, above}
 use Rattle.fields.specs.Line.{printable, field}
 use Rattle.lines.specs.Labels.{bracketed, group_text, term_text, term_shown, unmapped_path, name_shown}
+
+-- bytes put into the list of the line, and its place set behind so many: so an edit that puts them elsewhere, with the
+-- place right, is refused for where they went
+pub puts_row : {s : List ℕ} {l m : Line} {r : ℕ} → m.out.ghost_name ≡ l.out.ghost_name → Placed l.out.now l.at s m.out.now r → length m.out.now ≡ length l.out.now → m.at ≡ behind (length m.out.now) l.at (length s) → Puts s l m
+puts_row {s} {l} same p h e = record { same = same; placed = record { now = p.now; end = e ∙ ap (λ (n : ℕ). behind n l.at (length s)) h } }
 
 natural_held : {z : ℤ} {k : ℕ} → SFits w64 z → k ≡ natural (held z) → k ≡ natural z
 natural_held f e = e ∙ ap natural (to_z-of_z f)
