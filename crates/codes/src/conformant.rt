@@ -2,22 +2,24 @@
 ghost use Rattle.std.specs.Prelude.{◌≡◌, drop};
 ghost use Rattle.codes.specs.Conformant.{begins, contains, conformant};
 
-// Whether needle stands in s from i on. Where the first byte is another, no more is looked at: at each place of
-// a long identifier `starts_with` takes twice the time.
+// Whether needle stands in s from i on: eight bytes at a time, for an identifier may be long, and with the
+// library's `starts_with` each place takes twice the time.
 fn begins_at(s: &[u8], i: usize, needle: &[u8]) -> bool
     ensures { result ≡ begins needle.now (drop i s.now) }
 {
-    if i < s.len() && !needle.is_empty() && s[i] != needle[0] {
-        return false;
-    }
-    text::same(text::clip(s, i, needle.len()), needle)
+    text::same_words(text::clip(s, i, needle.len()), needle)
 }
 
-// Whether needle stands anywhere in s.
+// Whether needle stands anywhere in s. By a `for`: with a closure in `any` each place takes a third more.
 fn contains(s: &[u8], needle: &[u8]) -> bool
     ensures { result ≡ contains needle.now s.now }
 {
-    needle.is_empty() || (0..s.len()).any(|i| begins_at(s, i, needle))
+    for i in 0..s.len() {
+        if begins_at(s, i, needle) {
+            return true;
+        }
+    }
+    needle.is_empty()
 }
 
 // Whether a specification identifier names a conformant extension.
