@@ -20,11 +20,15 @@ impl Line<'_> {
         self.at = report::put_row(self.out, self.at, s);
     }
 
-    // Puts one byte.
+    // Puts one byte. By an index test, for the bytes of a printed text are put one by one: as a text of one byte
+    // each takes four times the time.
     pub fn put_byte(&mut self, b: u8)
         ensures { Puts (b ∷ []) self.old self.new }
     {
-        self.put_bytes(&[b]);
+        if self.at < self.out.len() {
+            self.out[self.at] = b;
+            self.at += 1;
+        }
     }
 
     // Puts a number's digits.

@@ -4,9 +4,10 @@ use mathlib.Core.Bool.{Bool, true, false}
 use mathlib.Core.List.{List, [], ◌∷◌, ◌++◌}
 use Prim.Native.Nat.{ℕ, suc, ◌+◌, ◌-◌, ◌≤◌, ◌<◌}
 use native.Mathlib.Omega.{arith}
+use native.Mathlib.Decide.{dec_lt}
 use borrow.Author.Tests.{le-leb, lt-leb, leb-true, leb-false}
 use lib.Dec.{leb}
-use lib.ListN.{length, length-append}
+use lib.ListN.{length, set, length-append}
 use lib.Seq.{set_out}
 use Rattle.names.specs.Put.{put}
 use Rattle.report.specs.Placed.{behind, Placed}
@@ -119,3 +120,21 @@ placed_room {A} {l} {l'} {vs} {at} {a} p h = p.end ∙ go (leb (length l) at) re
 -- numbers that were put, and the place behind them
 pub placed_by : {A : Type 0} {l l' vs : List A} {at r : ℕ} → l' ≡ put l at vs → r ≡ behind (length l') at (length vs) → Placed l at vs l' r
 placed_by {A} {l} {l'} {vs} {at} {r} p e = record { now = p; end = e ∙ ap (λ (s : ℕ). behind s at (length vs)) (ap length p ∙ length_put l at vs) }
+
+-- one element: where there is room for it, and where there is none
+module _ {A : Type 0} {l : List A} {at : ℕ} {v : A} where
+  pub placed_one : at < length l → Placed l at (v ∷ []) (set l at v) (at + 1)
+  unfolding put
+  placed_one h =
+      record {
+        now = refl;
+        end =
+          elim (dec_lt 1 (length l - at)) [
+            | yes q ↦ sym (behind_room (length l) at 1 h q)
+            | no q ↦ omega (arith, behind_cut (length l) at 1 h (omega arith))
+          ];
+      }
+
+  pub placed_past : length l ≤ at → Placed l at (v ∷ []) l at
+  unfolding put
+  placed_past h = record { now = sym (set_out l at v h); end = sym (behind_full (length l) at 1 h) }

@@ -19,23 +19,23 @@ const ZEROS: usize = 24600;
 
 const BLANK: usize = 65536;
 
-// The answer for n zeros and m zero bytes.
-fn print_zeros(rt: &impl Print, n: usize, m: usize) -> io::Result<()> {
-    if n > ZEROS || m > BLANK {
+// The answer for the first n of the zeros and the first m of their zero bytes.
+fn print_zeros(rt: &impl Print, n: usize, m: usize, zeros: &Table<'_>) -> io::Result<()> {
+    if n > zeros.records.len() || m > zeros.text.len() {
         return rt.print("unfit");
     }
     let table = Table {
-        records: &[0; ZEROS][..n],
-        text: &[0; BLANK][..m],
+        records: &zeros.records[..n],
+        text: &zeros.text[..m],
     };
     print_answer(rt, &table)
 }
 
 // The two numbers of a line `zeros N M`.
-fn print_counts(rt: &impl Print, counts: &[u8]) -> io::Result<()> {
+fn print_counts(rt: &impl Print, counts: &[u8], zeros: &Table<'_>) -> io::Result<()> {
     let mut both = [0u32; 2];
     if cases::numbers(counts, &mut both) == 2 {
-        return print_zeros(rt, both[0] as usize, both[1] as usize);
+        return print_zeros(rt, both[0] as usize, both[1] as usize, zeros);
     }
     rt.print("unfit")
 }
@@ -60,12 +60,18 @@ fn print_table(
     rt.print("unfit")
 }
 
-fn print_line(rt: &impl Print, line: &[u8], table: &mut [u32], text: &mut [u8]) -> io::Result<()> {
+fn print_line(
+    rt: &impl Print,
+    line: &[u8],
+    table: &mut [u32],
+    text: &mut [u8],
+    zeros: &Table<'_>,
+) -> io::Result<()> {
     if line.len() < 6 {
         return rt.print("unfit");
     }
     if line[0] == b'z' {
-        return print_counts(rt, &line[6..]);
+        return print_counts(rt, &line[6..], zeros);
     }
     let colon = find(line, 1, b':');
     if colon == line.len() {
@@ -75,15 +81,21 @@ fn print_line(rt: &impl Print, line: &[u8], table: &mut [u32], text: &mut [u8]) 
 }
 
 // Each line of the first 262,144 bytes of the input, of which the last may lack its line feed. All of them
-// are read before a line is answered, and no heap is taken.
+// are read before a line is answered, and no heap is taken. The zeros are made once, for all cases.
 fn main(rt: HostRuntime) -> io::Result<()> {
     let mut input = [0u8; 262144];
     let mut table = [0u32; 4096];
     let mut text = [0u8; 65536];
+    let numbers = [0u32; ZEROS];
+    let blank = [0u8; BLANK];
+    let zeros = Table {
+        records: &numbers,
+        text: &blank,
+    };
     let n = read_full(&mut rt.stdin(), &mut input)?;
     for line in input[..n].split_inclusive(|b| *b == b'\n') {
         let line = line.strip_suffix(b"\n").unwrap_or(line);
-        print_line(&rt, line, &mut table, &mut text)?;
+        print_line(&rt, line, &mut table, &mut text, &zeros)?;
         rt.print("\n")?;
     }
     Ok(())
