@@ -129,10 +129,10 @@ module _ {A : Type 0} {l : List A} {at : ℕ} {v : A} where
       record {
         now = refl;
         end =
-          elim (dec_lt 1 (length l - at)) [
-            | yes q ↦ sym (behind_room (length l) at 1 h q)
-            | no q ↦ omega (arith, behind_cut (length l) at 1 h (omega arith))
-          ];
+            elim (dec_lt 1 (length l - at)) [
+              | yes q ↦ sym (behind_room (length l) at 1 h q)
+              | no q ↦ omega (arith, behind_cut (length l) at 1 h (omega arith))
+            ];
       }
 
   pub placed_past : length l ≤ at → Placed l at (v ∷ []) l at
