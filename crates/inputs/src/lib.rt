@@ -1,7 +1,6 @@
 // What the program `reading` is given, made into what `reader::read` takes: the numbers of the record
 // file, and mode, rules, currency and identifier of the input line; or that it is unfit (document 01,
-// "The printed reading"). And the reading of a file or of standard input into a lent buffer, for every program
-// that reads.
+// "The printed reading").
 //
 // Every function takes all bytes and all places. No public function has a `requires`, and the crate
 // assumes nothing of its own.
