@@ -96,14 +96,14 @@ among_none (y ∷ l) x d n = go (equal x y) refl (among_none l x d (λ k h e. n 
 alike : (y x : List ℕ) (o : Ordering) → against y x ≡ o → y ≡ x → o ≡ Equal
 alike y x o p e = sym p ∙ ap (λ (t : List ℕ). against t x) e ∙ itself x
 
--- what a search for x answers
-pub found : (l : List (List ℕ)) (x : List ℕ) (r : Result ℕ ℕ) → ascends [] l ≡ true → IsSearchInRange r (length l) → IsBinarySearchResult (λ y. against y x) l r → is_ok r ≡ among x l
-found l x (Ok i) e b h = sym (among_at l x [] i b (same_text (get_or l i []) x (h [])))
-found l x (Err i) e b h = sym (among_none l x [] none)
+-- what a search for x answers, of texts above m
+pub found : (l : List (List ℕ)) (m x : List ℕ) (r : Result ℕ ℕ) → ascends m l ≡ true → IsSearchInRange r (length l) → IsBinarySearchResult (λ y. against y x) l r → is_ok r ≡ among x l
+found l m x (Ok i) e b h = sym (among_at l x [] i b (same_text (get_or l i []) x (h [])))
+found l m x (Err i) e b h = sym (among_none l x [] none)
   where
     none : (k : ℕ) → k < length l → get_or l k [] ≡ x → ⊥
     none k q z =
-        let p = h (rises l [] x e) in
+        let p = h (rises l m x e) in
         elim (dec_lt k i) [
           | yes t ↦ (let w : Less ≡ Equal = alike (get_or l k []) x Less (p.0 k [] (omega arith) t) z in cc)
           | no t ↦ (let w : Greater ≡ Equal = alike (get_or l k []) x Greater (p.1 k [] (omega arith) q) z in cc)
@@ -117,15 +117,19 @@ unfoldable pub threes : List (List ℕ) → Bool
 threes [] = true
 threes (t ∷ l) = eqb (length t) 3 && (ltb (get_or t 0 0) 256 && ltb (get_or t 1 0) 256 && ltb (get_or t 2 0) 256) && threes l
 
--- the computed test of the entire list: the codes ascend without repeats, and each is three bytes
-pub codes_ascend : (ascends [] codes && threes codes) ≡ true
+abbrev zeros : List ℕ
+zeros = 0 ∷ 0 ∷ 0 ∷ []
+
+-- the computed test of the entire list: the codes ascend without repeats, the first above three zero bytes, and
+-- each is three bytes
+pub codes_ascend : (ascends zeros codes && threes codes) ≡ true
 unfolding codes currency_codes bytes encode ascends threes
 codes_ascend = refl
 
 -- a search of the table answers that s is there just where s is listed
 pub member_listed : (s : List ℕ) (r : Result ℕ ℕ) → IsSearchInRange r (length codes) → IsBinarySearchResult (λ y. against y s) codes r → is_ok r ≡ listed s
 unfolding codes listed
-member_listed s r b h = found codes s r (both (ascends [] codes) (threes codes) codes_ascend).0 b h
+member_listed s r b h = found codes zeros s r (both (ascends zeros codes) (threes codes) codes_ascend).0 b h
 
 other : (s : List ℕ) (l : List (List ℕ)) → threes l ≡ true → (length s ≡ 3 → ⊥) → among s l ≡ false
 unfolding among threes
@@ -142,7 +146,7 @@ other s (t ∷ l) e n =
 -- a text of another length
 pub listed_other : (s : List ℕ) → (length s ≡ 3 → ⊥) → false ≡ listed s
 unfolding listed codes
-listed_other s n = sym (other s codes (both (ascends [] codes) (threes codes) codes_ascend).1 n)
+listed_other s n = sym (other s codes (both (ascends zeros codes) (threes codes) codes_ascend).1 n)
 
 -- a text of three bytes
 pub three : (s : List ℕ) → length s ≡ 3 → get_or s 0 0 ∷ get_or s 1 0 ∷ get_or s 2 0 ∷ [] ≡ s

@@ -10,7 +10,7 @@ fn begins_at(s: &[u8], i: usize, needle: &[u8]) -> bool
     text::same_words(text::clip(s, i, needle.len()), needle)
 }
 
-// Whether needle stands anywhere in s. By a `for`: with a closure in `any` each place takes a third more.
+// Whether needle stands anywhere in s. By a `for`: a closure in `any` takes 24 instructions a place for 16.
 fn contains(s: &[u8], needle: &[u8]) -> bool
     ensures { result ≡ contains needle.now s.now }
 {
